@@ -1,0 +1,31 @@
+// What a block device promises the code above it, also when power fails.
+ghost use Rattle.device.specs.Disk.{Disk};
+ghost use Rattle.device.specs.Meaning.{Read, Write, Barrier, Restart};
+ghost use mathlib.Core.Path.{_≡_};
+
+mod fault;
+
+pub use fault::DeviceFault;
+
+// The number of bytes in a sector.
+pub const SECTOR: usize = 128;
+
+// A device, by its model: how many sectors, on or off, what each sector shows and what may stand there.
+pub trait Device {
+    ghost disk: { Self → Disk };
+
+    fn sectors(&self) -> usize
+        ensures { λ r. ⌜ r ≡ disk (now (self .entry)) .plate .sectors ⌝ };
+
+    fn read(&mut self, sector: usize, buffer: &mut [u8]) -> Result<(), DeviceFault>
+        ensures { λ r. ⌜ Read (disk (now (self .entry))) sector (now (buffer .entry)) r (disk (now (self .exit))) (now (buffer .exit)) ⌝ };
+
+    fn write(&mut self, sector: usize, bytes: &[u8]) -> Result<(), DeviceFault>
+        ensures { λ r. ⌜ Write (disk (now (self .entry))) sector (now (bytes .entry)) r (disk (now (self .exit))) ⌝ };
+
+    fn barrier(&mut self) -> Result<(), DeviceFault>
+        ensures { λ r. ⌜ Barrier (disk (now (self .entry))) r (disk (now (self .exit))) ⌝ };
+
+    fn restart(&mut self) -> Result<(), DeviceFault>
+        ensures { λ r. ⌜ Restart (disk (now (self .entry))) r (disk (now (self .exit))) ⌝ };
+}
