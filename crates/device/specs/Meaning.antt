@@ -138,3 +138,12 @@ Restart d (Err (Power o)) e = Lost d o e
 Restart d (Err (Misaddressed _ _)) e = ⊥
 Restart d (Err Unfit) e = ⊥
 Restart d (Err (Spoiled _ _)) e = ⊥
+
+-- The tests before any work on sector s with a buffer of n bytes, in their order.
+abbrev pub Admitted : Bool → ℕ → ℕ → ℕ → ℕ → Answer → Type 0
+Admitted on sectors origin s n (Ok _) = (on ≡ true) × (s < sectors) × (n ≡ 128)
+Admitted on sectors origin s n (Err (Power o)) = (on ≡ false) × (o ≡ 0)
+Admitted on sectors origin s n (Err (Misaddressed t o)) =
+    (on ≡ true) × ((sectors ≤ s) ⊎ (n ≢ 128)) × Says (Misaddressed t o) 2 (s ∷ origin ∷ [])
+Admitted on sectors origin s n (Err Unfit) = ⊥
+Admitted on sectors origin s n (Err (Spoiled _ _)) = ⊥

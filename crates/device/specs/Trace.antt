@@ -30,25 +30,28 @@ Cut (wrote s bytes) d o e = Was-off d o e ⊎ Torn d s bytes o e
 Cut settled d o e = Failed d o e
 Cut restarted d o e = Lost d o e
 
--- The three below are over any kind of state S and step A, so that they serve one device as well as
--- the two of a mirror. All the steps were done, in this order, from s to t.
-abbrev pub All-done : {S A : Type 0} → (A → S → S → Type 0) → S → List A → S → Type 0
-All-done done s [] t = t ≡ s
-All-done {S = S} done s (a ∷ more) t = (m : S) × (done a s m) × All-done done m more t
+-- All the calls of a plan were made, in this order, and took d to e.
+abbrev pub Done : Disk → List Act → Disk → Type 0
+Done d [] e = e ≡ d
+Done d (a ∷ more) e = (m : Disk) × (Does a d m) × Done m more e
 
--- Power cut one of the steps; those before it were done, those after it were not begun.
-abbrev pub Cut-short : {S A : Type 0} → (A → S → S → Type 0) → (A → S → ℕ → S → Type 0) → S → List A → ℕ → S → Type 0
-Cut-short done cut s [] o t = ⊥
-Cut-short {S = S} done cut s (a ∷ more) o t = cut a s o t ⊎ ((m : S) × (done a s m) × Cut-short done cut m more o t)
+-- Power cut one call of the plan; those before it were made, those after it were not begun.
+abbrev pub Cut-short : Disk → List Act → ℕ → Disk → Type 0
+Cut-short d [] o e = ⊥
+Cut-short d (a ∷ more) o e = Cut a d o e ⊎ ((m : Disk) × (Does a d m) × Cut-short m more o e)
 
--- The steps of a plan were tried: all done where the answer is good, cut short where power failed.
-abbrev pub Tried : {S A : Type 0} → (A → S → S → Type 0) → (A → S → ℕ → S → Type 0) → S → List A → Answer → S → Type 0
-Tried done cut s plan (Ok _) t = All-done done s plan t
-Tried done cut s plan (Err (Power o)) t = Cut-short done cut s plan o t
-Tried done cut s plan (Err (Misaddressed _ _)) t = ⊥
-Tried done cut s plan (Err Unfit) t = ⊥
-Tried done cut s plan (Err (Spoiled _ _)) t = ⊥
-
--- The device calls of a plan, tried on one device.
+-- The calls of a plan were tried: all made where the answer is good, cut short where power failed.
 abbrev pub Tries : Disk → List Act → Answer → Disk → Type 0
-Tries = Tried Does Cut
+Tries d plan (Ok _) e = Done d plan e
+Tries d plan (Err (Power o)) e = Cut-short d plan o e
+Tries d plan (Err (Misaddressed _ _)) e = ⊥
+Tries d plan (Err Unfit) e = ⊥
+Tries d plan (Err (Spoiled _ _)) e = ⊥
+
+-- A plan was tried on the device c, and only when all of it was made another on the device d.
+abbrev pub In-turn : Disk → List Act → Disk → List Act → Answer → Disk → Disk → Type 0
+In-turn c first d second (Ok _) c′ d′ = Done c first c′ × Done d second d′
+In-turn c first d second (Err (Power o)) c′ d′ = (Cut-short c first o c′ × (d′ ≡ d)) ⊎ (Done c first c′ × Cut-short d second o d′)
+In-turn c first d second (Err (Misaddressed _ _)) c′ d′ = ⊥
+In-turn c first d second (Err Unfit) c′ d′ = ⊥
+In-turn c first d second (Err (Spoiled _ _)) c′ d′ = ⊥

@@ -1,6 +1,6 @@
 // What a block device promises the code above it, also when power fails.
 ghost use Rattle.device.specs.Disk.{Disk};
-ghost use Rattle.device.specs.Meaning.{Read, Write, Barrier, Restart};
+ghost use Rattle.device.specs.Meaning.{Admitted, Read, Write, Barrier, Restart};
 ghost use mathlib.Core.Path.{_≡_};
 
 mod fault;
@@ -28,4 +28,24 @@ pub trait Device {
 
     fn restart(&mut self) -> Result<(), DeviceFault>
         ensures { λ r. ⌜ Restart (disk (now (self .entry))) r (disk (now (self .exit))) ⌝ };
+}
+
+// The tests that come before any work on a sector: a device that is off answers that first, then a
+// sector that is not there or a buffer that doesn't fit is refused.
+pub fn admit(
+    on: bool,
+    sectors: usize,
+    origin: u8,
+    sector: usize,
+    length: usize,
+) -> Result<(), DeviceFault>
+    ensures { λ r. ⌜ Admitted on sectors origin sector length r ⌝ }
+{
+    if !on {
+        return Err(DeviceFault::Power(0));
+    }
+    if sector >= sectors || length != SECTOR {
+        return Err(DeviceFault::Misaddressed(sector, origin));
+    }
+    Ok(())
 }

@@ -1,0 +1,3 @@
+-- Lemmas that every layer over a device may want.
+pub mod Membership
+pub mod Changes

@@ -1,0 +1,3 @@
+-- Why two sides worked in turn are one device.
+pub mod Merging
+pub mod Working

@@ -1,0 +1,3 @@
+-- What a mirror is, over its two sides.
+pub mod Sides
+pub mod View
