@@ -19,6 +19,7 @@ use turns::settle_both;
 use turns::write_both;
 
 // Two devices as one. Any failure on either side turns it off until a restart succeeds.
+#[derive(Drop)]
 pub struct Mirror<L, R> {
     left: L,
     right: R,
@@ -34,14 +35,6 @@ impl<L: Device, R: Device> Mirror<L, R> {
             right,
             on: true,
         }
-    }
-
-    // Gives the two sides back, left first.
-    pub fn into_sides(self) -> (L, R)
-        ensures { λ s. ⌜ (s .0 ≡ self .left) × (s .1 ≡ self .right) ⌝ }
-    {
-        let Mirror { left, right, on: _ } = self;
-        (left, right)
     }
 }
 

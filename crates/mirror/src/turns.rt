@@ -33,7 +33,8 @@ fn write_in_turn<A: Device, B: Device>(
     ensures { λ r. ⌜ In-turn (A·Device .disk (now (first .entry))) (wrote sector (now (bytes .entry)) ∷ settled ∷ []) (B·Device .disk (now (second .entry))) (wrote sector (now (bytes .entry)) ∷ []) r (A·Device .disk (now (first .exit))) (B·Device .disk (now (second .exit))) ⌝ }
 {
     first.write(sector, bytes)?;
-    first.barrier()?;
+    // Were the second touched before this, power could spoil the sector on both.
+    Device::barrier(first)?;
     second.write(sector, bytes)
 }
 
