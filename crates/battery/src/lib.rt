@@ -1,0 +1,91 @@
+// A battery memory: a device with sectors of its own that never loses power.
+ghost use Rattle.battery.specs.Memory.{memory, Put, Fetched, Stored};
+ghost use Prim.Native.Nat.{_+_, _*_, _≤_};
+ghost use Rattle.device.specs.Meaning.{Read, Write, Barrier, Restart};
+ghost use Rattle.std.specs.declared.result.Result.the-variants.{Ok};
+ghost use lib.ListN.{length, replicate};
+ghost use mathlib.Core.Path.{_≡_};
+use device::Device;
+use device::DeviceFault;
+use device::SECTOR;
+
+// The number of sectors.
+const SECTORS: usize = 224;
+
+// The number of bytes in all sectors together.
+const BYTES: usize = 28672;
+
+// A battery memory, by its bytes and the number that it tells as its origin.
+#[derive(Drop)]
+pub struct Battery {
+    bytes: [u8; BYTES],
+    origin: u8,
+}
+
+impl Battery {
+    // A memory of zeros.
+    pub fn new(origin: u8) -> Self
+        ensures { λ r. ⌜ (r .bytes ≡ replicate 28672 0) × (r .origin ≡ origin) ⌝ }
+    {
+        Battery { bytes: [0; BYTES], origin }
+    }
+}
+
+pub impl Device for Battery as BatteryDevice {
+    ghost disk = { λ b. memory (b .bytes) (b .origin) };
+
+    fn sectors(&self) -> usize
+        ensures { λ r. ⌜ r ≡ 224 ⌝ }
+    {
+        SECTORS
+    }
+
+    // A buffer that is refused stays as it was.
+    fn read(&mut self, sector: usize, buffer: &mut [u8]) -> Result<(), DeviceFault>
+        ensures meaning { λ r. ⌜ Read (memory (now (self .entry) .bytes) (now (self .entry) .origin)) sector (now (buffer .entry)) r (memory (now (self .exit) .bytes) (now (self .exit) .origin)) (now (buffer .exit)) ⌝ }
+        ensures exact { λ r. ⌜ Fetched (now (self .entry) .bytes) (now (self .entry) .origin) sector (now (buffer .entry)) r (now (buffer .exit)) ⌝ }
+        ensures same { λ r. ⌜ now (self .exit) ≡ now (self .entry) ⌝ }
+    {
+        if sector >= SECTORS || buffer.len() != SECTOR {
+            return Err(DeviceFault::Misaddressed(sector, self.origin));
+        }
+        let start = sector * SECTOR;
+        buffer.copy_from_slice(&self.bytes[start..start + SECTOR]);
+        Ok(())
+    }
+
+    fn write(&mut self, sector: usize, bytes: &[u8]) -> Result<(), DeviceFault>
+        ensures meaning { λ r. ⌜ Write (memory (now (self .entry) .bytes) (now (self .entry) .origin)) sector (now (bytes .entry)) r (memory (now (self .exit) .bytes) (now (self .exit) .origin)) ⌝ }
+        ensures exact { λ r. ⌜ Stored (now (self .entry) .bytes) (now (self .entry) .origin) sector (now (bytes .entry)) r (now (self .exit) .bytes) ⌝ }
+        ensures same { λ r. ⌜ now (self .exit) .origin ≡ now (self .entry) .origin ⌝ }
+    {
+        if sector >= SECTORS || bytes.len() != SECTOR {
+            return Err(DeviceFault::Misaddressed(sector, self.origin));
+        }
+        put(&mut self.bytes, sector, bytes);
+        Ok(())
+    }
+
+    fn barrier(&mut self) -> Result<(), DeviceFault>
+        ensures meaning { λ r. ⌜ Barrier (memory (now (self .entry) .bytes) (now (self .entry) .origin)) r (memory (now (self .exit) .bytes) (now (self .exit) .origin)) ⌝ }
+        ensures exact { λ r. ⌜ (r ≡ Ok tt) × (now (self .exit) ≡ now (self .entry)) ⌝ }
+    {
+        Ok(())
+    }
+
+    fn restart(&mut self) -> Result<(), DeviceFault>
+        ensures meaning { λ r. ⌜ Restart (memory (now (self .entry) .bytes) (now (self .entry) .origin)) r (memory (now (self .exit) .bytes) (now (self .exit) .origin)) ⌝ }
+        ensures exact { λ r. ⌜ (r ≡ Ok tt) × (now (self .exit) ≡ now (self .entry)) ⌝ }
+    {
+        Ok(())
+    }
+}
+
+// Puts `new` where sector `sector` stands in `all`.
+fn put(all: &mut [u8], sector: usize, new: &[u8])
+    requires { ⌜ 128 * sector + 128 ≤ length (now all) ⌝ ∗ ⌜ length (now new) ≡ 128 ⌝ }
+    ensures { λ _. ⌜ Put (now (all .entry)) sector (now (new .entry)) (now (all .exit)) ⌝ }
+{
+    let start = sector * SECTOR;
+    all[start..start + SECTOR].copy_from_slice(new);
+}

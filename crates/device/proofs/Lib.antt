@@ -1,0 +1,2 @@
+-- Lemmas for the crates above.
+pub mod Sectors
