@@ -4,8 +4,9 @@ use mathlib.Core.Path.{_≡_}
 use mathlib.Core.Bool.{true}
 use mathlib.Core.Logic.{_⊎_, _≢_}
 use mathlib.Core.List.{List, [], _∷_, _++_}
-use lib.ListN.{length, take, drop}
+use lib.ListN.{length, take, drop, replicate}
 use Rattle.std.specs.declared.result.Result.the-variants.{Ok, Err}
+use Rattle.battery.specs.declared.Battery.{Battery}
 use Rattle.device.specs.declared.fault.DeviceFault.the-variants.{Misaddressed}
 use Rattle.device.specs.Disk.{Disk, Shown, holds}
 use Rattle.device.specs.Meaning.{Answer}
@@ -25,12 +26,17 @@ pub record Put (bytes : List ℕ) (s : ℕ) (new after : List ℕ) : Type 0 wher
   pub elsewhere : (i : ℕ) → i ≢ s → cell after i ≡ cell bytes i
 
 -- The model: always on, never spoiled, and each write stands at once.
-abbrev pub memory : List ℕ → ℕ → Disk
-memory bytes origin = record {
-  plate = record { sectors = 224; origin = origin; ends = origin ∷ []; blames = λ _. origin };
+abbrev pub model : Battery → Disk
+model b = record {
+  plate = record { sectors = 224; origin = b .origin; ends = b .origin ∷ []; blames = λ _. b .origin };
   on = true;
-  shows = λ i. holds (cell bytes i);
+  shows = λ i. holds (cell (b .bytes) i);
   others = λ _. [] }
+
+-- A new memory: zeros.
+pub record New (origin : ℕ) (b : Battery) : Type 0 where
+  pub zeros : b .bytes ≡ replicate 28672 0
+  pub named : b .origin ≡ origin
 
 -- Sector s is there, and a buffer of n bytes fits it.
 pub record Right (s n : ℕ) : Type 0 where
@@ -45,12 +51,19 @@ Wrong s n = (224 ≤ s) ⊎ (n ≢ 128)
 abbrev pub misaddressed : ℕ → ℕ → Answer
 misaddressed s origin = Err (Misaddressed s origin)
 
--- A read of sector s of these bytes: its answer, and the buffer before and after it.
-pub record Fetched (bytes : List ℕ) (origin s : ℕ) (before : List ℕ) (r : Answer) (after : List ℕ) : Type 0 where
-  pub done : Right s (length before) → (r ≡ Ok tt) × (after ≡ cell bytes s)
-  pub refused : Wrong s (length before) → (r ≡ misaddressed s origin) × (after ≡ before)
+-- A read of sector s: its answer, and the memory and the buffer after it.
+pub record Fetched (b : Battery) (s : ℕ) (before : List ℕ) (r : Answer) (e : Battery) (after : List ℕ) : Type 0 where
+  pub done : Right s (length before) → (r ≡ Ok tt) × (after ≡ cell (b .bytes) s)
+  pub refused : Wrong s (length before) → (r ≡ misaddressed s (b .origin)) × (after ≡ before)
+  pub same : e ≡ b
 
--- A write of `new` to sector s: its answer, and the bytes before and after it.
-pub record Stored (bytes : List ℕ) (origin s : ℕ) (new : List ℕ) (r : Answer) (after : List ℕ) : Type 0 where
-  pub done : Right s (length new) → (r ≡ Ok tt) × (after ≡ put bytes s new)
-  pub refused : Wrong s (length new) → (r ≡ misaddressed s origin) × (after ≡ bytes)
+-- A write of `new` to sector s: its answer, and the memory after it.
+pub record Stored (b : Battery) (s : ℕ) (new : List ℕ) (r : Answer) (e : Battery) : Type 0 where
+  pub done : Right s (length new) → (r ≡ Ok tt) × (e .bytes ≡ put (b .bytes) s new)
+  pub refused : Wrong s (length new) → (r ≡ misaddressed s (b .origin)) × (e .bytes ≡ b .bytes)
+  pub origin : e .origin ≡ b .origin
+
+-- A call that succeeds and changes nothing.
+pub record Idle (b : Battery) (r : Answer) (e : Battery) : Type 0 where
+  pub done : r ≡ Ok tt
+  pub same : e ≡ b

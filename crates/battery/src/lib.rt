@@ -1,9 +1,8 @@
 // A battery memory: a device with sectors of its own that never loses power.
-ghost use Rattle.battery.specs.Memory.{memory, Put, Fetched, Stored};
+ghost use Rattle.battery.specs.Memory.{model, New, Put, Fetched, Stored, Idle};
 ghost use Prim.Native.Nat.{_+_, _*_, _≤_};
 ghost use Rattle.device.specs.Meaning.{Read, Write, Barrier, Restart};
-ghost use Rattle.std.specs.declared.result.Result.the-variants.{Ok};
-ghost use lib.ListN.{length, replicate};
+ghost use lib.ListN.{length};
 ghost use mathlib.Core.Path.{_≡_};
 use device::Device;
 use device::DeviceFault;
@@ -25,14 +24,14 @@ pub struct Battery {
 impl Battery {
     // A memory of zeros.
     pub fn new(origin: u8) -> Self
-        ensures { λ r. ⌜ (r .bytes ≡ replicate 28672 0) × (r .origin ≡ origin) ⌝ }
+        ensures { λ r. ⌜ New origin r ⌝ }
     {
         Battery { bytes: [0; BYTES], origin }
     }
 }
 
 pub impl Device for Battery as BatteryDevice {
-    ghost disk = { λ b. memory (b .bytes) (b .origin) };
+    ghost disk = { model };
 
     fn sectors(&self) -> usize
         ensures { λ r. ⌜ r ≡ 224 ⌝ }
@@ -42,9 +41,8 @@ pub impl Device for Battery as BatteryDevice {
 
     // A buffer that is refused stays as it was.
     fn read(&mut self, sector: usize, buffer: &mut [u8]) -> Result<(), DeviceFault>
-        ensures meaning { λ r. ⌜ Read (memory (now (self .entry) .bytes) (now (self .entry) .origin)) sector (now (buffer .entry)) r (memory (now (self .exit) .bytes) (now (self .exit) .origin)) (now (buffer .exit)) ⌝ }
-        ensures exact { λ r. ⌜ Fetched (now (self .entry) .bytes) (now (self .entry) .origin) sector (now (buffer .entry)) r (now (buffer .exit)) ⌝ }
-        ensures same { λ r. ⌜ now (self .exit) ≡ now (self .entry) ⌝ }
+        ensures meaning { λ r. ⌜ Read (model (now (self .entry))) sector (now (buffer .entry)) r (model (now (self .exit))) (now (buffer .exit)) ⌝ }
+        ensures exact { λ r. ⌜ Fetched (now (self .entry)) sector (now (buffer .entry)) r (now (self .exit)) (now (buffer .exit)) ⌝ }
     {
         if sector >= SECTORS || buffer.len() != SECTOR {
             return Err(DeviceFault::Misaddressed(sector, self.origin));
@@ -55,9 +53,8 @@ pub impl Device for Battery as BatteryDevice {
     }
 
     fn write(&mut self, sector: usize, bytes: &[u8]) -> Result<(), DeviceFault>
-        ensures meaning { λ r. ⌜ Write (memory (now (self .entry) .bytes) (now (self .entry) .origin)) sector (now (bytes .entry)) r (memory (now (self .exit) .bytes) (now (self .exit) .origin)) ⌝ }
-        ensures exact { λ r. ⌜ Stored (now (self .entry) .bytes) (now (self .entry) .origin) sector (now (bytes .entry)) r (now (self .exit) .bytes) ⌝ }
-        ensures same { λ r. ⌜ now (self .exit) .origin ≡ now (self .entry) .origin ⌝ }
+        ensures meaning { λ r. ⌜ Write (model (now (self .entry))) sector (now (bytes .entry)) r (model (now (self .exit))) ⌝ }
+        ensures exact { λ r. ⌜ Stored (now (self .entry)) sector (now (bytes .entry)) r (now (self .exit)) ⌝ }
     {
         if sector >= SECTORS || bytes.len() != SECTOR {
             return Err(DeviceFault::Misaddressed(sector, self.origin));
@@ -67,15 +64,15 @@ pub impl Device for Battery as BatteryDevice {
     }
 
     fn barrier(&mut self) -> Result<(), DeviceFault>
-        ensures meaning { λ r. ⌜ Barrier (memory (now (self .entry) .bytes) (now (self .entry) .origin)) r (memory (now (self .exit) .bytes) (now (self .exit) .origin)) ⌝ }
-        ensures exact { λ r. ⌜ (r ≡ Ok tt) × (now (self .exit) ≡ now (self .entry)) ⌝ }
+        ensures meaning { λ r. ⌜ Barrier (model (now (self .entry))) r (model (now (self .exit))) ⌝ }
+        ensures exact { λ r. ⌜ Idle (now (self .entry)) r (now (self .exit)) ⌝ }
     {
         Ok(())
     }
 
     fn restart(&mut self) -> Result<(), DeviceFault>
-        ensures meaning { λ r. ⌜ Restart (memory (now (self .entry) .bytes) (now (self .entry) .origin)) r (memory (now (self .exit) .bytes) (now (self .exit) .origin)) ⌝ }
-        ensures exact { λ r. ⌜ (r ≡ Ok tt) × (now (self .exit) ≡ now (self .entry)) ⌝ }
+        ensures meaning { λ r. ⌜ Restart (model (now (self .entry))) r (model (now (self .exit))) ⌝ }
+        ensures exact { λ r. ⌜ Idle (now (self .entry)) r (now (self .exit)) ⌝ }
     {
         Ok(())
     }
