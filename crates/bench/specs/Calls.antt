@@ -5,15 +5,17 @@ use mathlib.Core.Bool.{Bool, true, false}
 use mathlib.Core.Logic.{_⊎_, _≢_}
 use mathlib.Core.List.{List}
 use lib.ListN.{length, set, getD}
+use denote.Ref.{now}
 use Rattle.std.specs.declared.result.Result.{Result}
 use Rattle.std.specs.declared.result.Result.the-variants.{Ok, Err}
 use Rattle.device.specs.declared.fault.DeviceFault.{DeviceFault}
 use Rattle.device.specs.declared.fault.DeviceFault.the-variants.{Power, Misaddressed, Unfit, Spoiled}
 use Rattle.device.specs.Meaning.{Answer}
 use Rattle.bench.specs.declared.Bench.{Bench}
+use Rattle.bench.specs.declared.Supply.{Supply}
 use Rattle.bench.specs.declared.Fate.{Fate}
 use Rattle.bench.specs.declared.Fate.the-variants as fates
-use Rattle.bench.specs.Card.{Card, card, sectors, cell, put, Put, flag, code, next}
+use Rattle.bench.specs.Card.{Card, card, sectors, cell, put, flag, code-at, one-more, code, next}
 
 -- Each code of the plan is known.
 abbrev pub Known : List ℕ → Type 0
@@ -35,6 +37,18 @@ Means n fates.Done = n ≡ 0
 Means n fates.Old = n ≡ 1
 Means n fates.New = n ≡ 2
 Means n fates.Spoiled = 3 ≤ n
+
+-- Power stays on.
+abbrev pub stays : Fate → Bool
+stays fates.Done = true
+stays fates.Old = false
+stays fates.New = false
+stays fates.Spoiled = false
+
+-- The next code of the plan was taken.
+pub record Took (s t : Supply) : Type 0 where
+  pub plan : now (t .plan) ≡ now (s .plan)
+  pub taken : t .taken ≡ one-more (now (s .plan)) (s .taken)
 
 -- It is on, sector s is there, and a buffer of n bytes fits it.
 pub record Ready (c : Card) (s n : ℕ) : Type 0 where
@@ -62,18 +76,6 @@ pub record Left (c : Card) (bs fs : List ℕ) (n : ℕ) (is-on : Bool) (e : Card
   pub taken : e .taken ≡ n
   pub on : e .on ≡ is-on
   pub origin : e .origin ≡ c .origin
-
--- The next code of the plan was taken.
-abbrev pub Took : Card → Card → Type 0
-Took c e = Left c (c .bytes) (c .flags) (next c) (c .on) e
-
--- The device was turned on or off.
-abbrev pub Turned : Card → Bool → Card → Type 0
-Turned c is-on e = Left c (c .bytes) (c .flags) (c .taken) is-on e
-
--- These bytes were put into sector s, which is not spoiled.
-abbrev pub Filled : Card → ℕ → List ℕ → Card → Type 0
-Filled c s bytes e = Left c (put (c .bytes) s bytes) (set (c .flags) s 0) (c .taken) (c .on) e × Put (c .bytes) s bytes (e .bytes)
 
 -- Whether a call with sector s and a buffer of n bytes may go on.
 abbrev pub Admitted : Card → ℕ → ℕ → Answer → Type 0

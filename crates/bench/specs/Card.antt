@@ -1,8 +1,6 @@
 -- A bench device as plain values, and its model.
 use Prim.Native.Nat.{ℕ, _+_, _*_, _/_, min}
-use mathlib.Core.Path.{_≡_}
 use mathlib.Core.Bool.{Bool, cond}
-use mathlib.Core.Logic.{_≢_}
 use mathlib.Core.List.{List, [], _∷_, _++_}
 use lib.Dec.{eqb, ltb}
 use lib.ListN.{length, take, drop, getD}
@@ -21,7 +19,7 @@ pub record Card : Type 0 where
   pub origin : ℕ
 
 abbrev pub card : Bench → Card
-card b = record { bytes = now (b .bytes); flags = now (b .flags); plan = now (b .plan); taken = b .taken; on = b .on; origin = b .origin }
+card b = record { bytes = now (b .bytes); flags = now (b .flags); plan = now (b .supply .plan); taken = b .supply .taken; on = b .supply .on; origin = b .origin }
 
 -- As many sectors as have both their bytes and a flag.
 abbrev pub sectors : Card → ℕ
@@ -35,12 +33,6 @@ cell bytes i = take 128 (drop (128 * i) bytes)
 abbrev pub put : List ℕ → ℕ → List ℕ → List ℕ
 put bytes s new = take (128 * s) bytes ++ (new ++ drop (128 * s + 128) bytes)
 
--- `new` was put into sector s, and every other sector is as it was.
-pub record Put (bytes : List ℕ) (s : ℕ) (new after : List ℕ) : Type 0 where
-  pub whole : after ≡ put bytes s new
-  pub there : cell after s ≡ new
-  pub elsewhere : (i : ℕ) → i ≢ s → cell after i ≡ cell bytes i
-
 -- The flag of sector i.
 abbrev pub flag : Card → ℕ → ℕ
 flag c i = getD (c .flags) i 0
@@ -49,13 +41,20 @@ flag c i = getD (c .flags) i 0
 abbrev pub shown : Card → ℕ → Shown
 shown c i = cond (eqb (flag c i) 0) (holds (cell (c .bytes) i)) spoiled
 
--- The code that the next write takes: 0 past the end of the plan.
-abbrev pub code : Card → ℕ
-code c = getD (c .plan) (c .taken) 0
+-- The code after n codes of a plan: 0 past its end.
+abbrev pub code-at : List ℕ → ℕ → ℕ
+code-at plan n = getD plan n 0
 
--- How many codes are taken once the next write took one.
+-- How many codes are taken once one more is asked for.
+abbrev pub one-more : List ℕ → ℕ → ℕ
+one-more plan n = cond (ltb n (length plan)) (n + 1) n
+
+-- The code that the next write takes, and how many are taken then.
+abbrev pub code : Card → ℕ
+code c = code-at (c .plan) (c .taken)
+
 abbrev pub next : Card → ℕ
-next c = cond (ltb (c .taken) (length (c .plan))) (c .taken + 1) (c .taken)
+next c = one-more (c .plan) (c .taken)
 
 -- The model: what a sector shows is all that may stand there.
 abbrev pub model : Card → Disk

@@ -1,20 +1,21 @@
 // A bench device: sectors in the caller's bytes, and power that fails where a plan says so.
-ghost use Rattle.bench.specs.Calls.{Made, Known, Means, Took, Turned, Ready, Filled, Stored, Admitted, Fetched, Waited, Woken};
-ghost use Rattle.bench.specs.Card.{card, code, Put, model, sectors};
+ghost use Rattle.bench.specs.Calls.{Made, Known, Means, stays, Took, Left, Stored, Admitted, Fetched, Waited, Woken};
+ghost use Rattle.bench.specs.Card.{card, cell, code-at, put, model, sectors};
 ghost use Rattle.device.specs.Meaning.{Read, Write, Barrier, Restart};
 ghost use lib.Dec.{T};
-ghost use lib.ListN.{length};
-ghost use Prim.Native.Nat.{_+_, _*_, _≤_};
-ghost use mathlib.Core.Bool.{true, false};
+ghost use lib.ListN.{length, set};
+ghost use Prim.Native.Nat.{_+_, _*_, _<_, _≤_};
+ghost use mathlib.Core.Bool.{true};
 ghost use mathlib.Core.Path.{_≡_};
-ghost use Rattle.std.specs.declared.result.Result.the-variants.{Err};
-ghost use Rattle.device.specs.declared.fault.DeviceFault.the-variants.{Power};
 use device::Device;
 use device::DeviceFault;
 use device::SECTOR;
 
-// The greatest code of a plan.
-const LAST: u8 = 3;
+// The codes of a plan.
+const DONE: u8 = 0;
+const OLD: u8 = 1;
+const NEW: u8 = 2;
+const SPOILED: u8 = 3;
 
 // What becomes of a write: power stays on, or it fails and leaves the old contents, the new ones, or
 // a spoiled sector.
@@ -26,13 +27,39 @@ enum Fate {
     Spoiled,
 }
 
+// Power that fails where a plan says so.
+#[derive(Drop)]
+struct Supply<'a> {
+    // A code for each write, in their order.
+    plan: &'a [u8],
+    // How many codes are taken.
+    taken: usize,
+    on: bool,
+}
+
+impl Supply<'_> {
+    // Takes the next code, and fails unless it says that power stays on, as it does past the end.
+    fn take(&mut self) -> Fate
+        requires { ⌜ now self .on ≡ true ⌝ }
+        ensures means { λ r. ⌜ Means (code-at (now (now (self .entry) .plan)) (now (self .entry) .taken)) r ⌝ }
+        ensures power { λ r. ⌜ now (self .exit) .on ≡ stays r ⌝ }
+        ensures took { λ r. ⌜ Took (now (self .entry)) (now (self .exit)) ⌝ }
+    {
+        let Some(code) = self.plan.get(self.taken) else {
+            return Fate::Done;
+        };
+        self.taken += 1;
+        self.on = *code == DONE;
+        Fate::of(*code)
+    }
+}
+
+// Sectors in the caller's bytes, with a flag for each that is not 0 where the sector is spoiled.
 #[derive(Drop)]
 pub struct Bench<'a> {
     bytes: &'a mut [u8],
     flags: &'a mut [u8],
-    plan: &'a [u8],
-    taken: usize,
-    on: bool,
+    supply: Supply<'a>,
     origin: u8,
 }
 
@@ -44,7 +71,8 @@ impl<'a> Bench<'a> {
         // The product might not fit a usize, so the lengths are compared by division.
         let whole = bytes.len() % SECTOR == 0 && bytes.len() / SECTOR == flags.len();
         if whole && known(plan) {
-            Ok(Bench { bytes, flags, plan, taken: 0, on: true, origin })
+            let supply = Supply { plan, taken: 0, on: true };
+            Ok(Bench { bytes, flags, supply, origin })
         } else {
             Err(DeviceFault::Unfit)
         }
@@ -54,7 +82,7 @@ impl<'a> Bench<'a> {
     fn admit(&self, sector: usize, length: usize) -> Result<(), DeviceFault>
         ensures { λ r. ⌜ Admitted (card (now (self .entry))) sector length r ⌝ }
     {
-        if !self.on {
+        if !self.supply.on {
             return Err(DeviceFault::Power(0));
         }
         if sector >= self.count() || length != SECTOR {
@@ -70,35 +98,43 @@ impl<'a> Bench<'a> {
         self.flags.len().min(self.bytes.len() / SECTOR)
     }
 
-    // Power fails: the device is off until it is restarted.
-    fn fail(&mut self) -> Result<(), DeviceFault>
-        ensures says { λ r. ⌜ r ≡ Err (Power (now (self .entry) .origin)) ⌝ }
-        ensures left { λ _. ⌜ Turned (card (now (self .entry))) false (card (now (self .exit))) ⌝ }
+    // Copies a sector out.
+    fn fetch(&self, sector: usize, buffer: &mut [u8])
+        requires { ⌜ sector < sectors (card (now self)) ⌝ ∗ ⌜ length (now buffer) ≡ 128 ⌝ }
+        ensures { λ _. ⌜ now (buffer .exit) ≡ cell (now (now (self .entry) .bytes)) sector ⌝ }
     {
-        self.on = false;
-        Err(DeviceFault::Power(self.origin))
+        let start = sector * SECTOR;
+        buffer.copy_from_slice(&self.bytes[start..start + SECTOR]);
     }
 
     // Writes a sector, which is then not spoiled.
     fn fill(&mut self, sector: usize, bytes: &[u8])
-        requires { ⌜ Ready (card (now self)) sector (length (now bytes)) ⌝ }
-        ensures { λ _. ⌜ Filled (card (now (self .entry))) sector (now (bytes .entry)) (card (now (self .exit))) ⌝ }
+        requires { ⌜ sector < sectors (card (now self)) ⌝ ∗ ⌜ length (now bytes) ≡ 128 ⌝ }
+        ensures { λ _. ⌜ Left (card (now (self .entry))) (put (now (now (self .entry) .bytes)) sector (now (bytes .entry))) (set (now (now (self .entry) .flags)) sector 0) (now (self .entry) .supply .taken) (now (self .entry) .supply .on) (card (now (self .exit))) ⌝ }
     {
         put(self.bytes, sector, bytes);
         self.flags[sector] = 0;
     }
 
-    // Takes the next code of the plan; past its end power stays on.
-    fn take(&mut self) -> Fate
-        ensures means { λ r. ⌜ Means (code (card (now (self .entry)))) r ⌝ }
-        ensures left { λ _. ⌜ Took (card (now (self .entry))) (card (now (self .exit))) ⌝ }
+    // A write, as the plan has it: what it answers, and all that it leaves behind.
+    fn perform(&mut self, sector: usize, bytes: &[u8]) -> Result<(), DeviceFault>
+        ensures { λ r. ⌜ Stored (card (now (self .entry))) sector (now (bytes .entry)) r (card (now (self .exit))) ⌝ }
     {
-        match self.plan.get(self.taken) {
-            Some(code) => {
-                self.taken += 1;
-                Fate::of(*code)
+        self.admit(sector, bytes.len())?;
+        match self.supply.take() {
+            Fate::Done => {
+                self.fill(sector, bytes);
+                Ok(())
             }
-            None => Fate::Done,
+            Fate::Old => Err(DeviceFault::Power(self.origin)),
+            Fate::New => {
+                self.fill(sector, bytes);
+                Err(DeviceFault::Power(self.origin))
+            }
+            Fate::Spoiled => {
+                self.flags[sector] = 1;
+                Err(DeviceFault::Power(self.origin))
+            }
         }
     }
 }
@@ -121,8 +157,7 @@ pub impl<'a> Device for Bench<'a> as BenchDevice {
         if self.flags[sector] != 0 {
             return Err(DeviceFault::Spoiled(sector, self.origin));
         }
-        let start = sector * SECTOR;
-        buffer.copy_from_slice(&self.bytes[start..start + SECTOR]);
+        self.fetch(sector, buffer);
         Ok(())
     }
 
@@ -130,29 +165,14 @@ pub impl<'a> Device for Bench<'a> as BenchDevice {
         ensures meaning { λ r. ⌜ Write (model (card (now (self .entry)))) sector (now (bytes .entry)) r (model (card (now (self .exit)))) ⌝ }
         ensures exact { λ r. ⌜ Stored (card (now (self .entry))) sector (now (bytes .entry)) r (card (now (self .exit))) ⌝ }
     {
-        self.admit(sector, bytes.len())?;
-        match self.take() {
-            Fate::Done => {
-                self.fill(sector, bytes);
-                Ok(())
-            }
-            Fate::Old => self.fail(),
-            Fate::New => {
-                self.fill(sector, bytes);
-                self.fail()
-            }
-            Fate::Spoiled => {
-                self.flags[sector] = 1;
-                self.fail()
-            }
-        }
+        self.perform(sector, bytes)
     }
 
     fn barrier(&mut self) -> Result<(), DeviceFault>
         ensures meaning { λ r. ⌜ Barrier (model (card (now (self .entry)))) r (model (card (now (self .exit)))) ⌝ }
         ensures exact { λ r. ⌜ Waited (card (now (self .entry))) r (card (now (self .exit))) ⌝ }
     {
-        if self.on { Ok(()) } else { Err(DeviceFault::Power(0)) }
+        if self.supply.on { Ok(()) } else { Err(DeviceFault::Power(0)) }
     }
 
     // The plan goes on where it was.
@@ -160,7 +180,7 @@ pub impl<'a> Device for Bench<'a> as BenchDevice {
         ensures meaning { λ r. ⌜ Restart (model (card (now (self .entry)))) r (model (card (now (self .exit)))) ⌝ }
         ensures exact { λ r. ⌜ Woken (card (now (self .entry))) r (card (now (self .exit))) ⌝ }
     {
-        self.on = true;
+        self.supply.on = true;
         Ok(())
     }
 }
@@ -170,9 +190,9 @@ impl Fate {
         ensures { λ r. ⌜ Means code r ⌝ }
     {
         match code {
-            0 => Fate::Done,
-            1 => Fate::Old,
-            2 => Fate::New,
+            DONE => Fate::Done,
+            OLD => Fate::Old,
+            NEW => Fate::New,
             _ => Fate::Spoiled,
         }
     }
@@ -184,7 +204,7 @@ fn known(plan: &[u8]) -> bool
     ensures no { λ r. ⌜ (Known (now (plan .entry)) → T r) ⌝ }
 {
     for code in plan {
-        if *code > LAST {
+        if *code > SPOILED {
             return false;
         }
     }
@@ -194,7 +214,7 @@ fn known(plan: &[u8]) -> bool
 // Puts `new` where sector `sector` stands in `all`.
 fn put(all: &mut [u8], sector: usize, new: &[u8])
     requires { ⌜ 128 * sector + 128 ≤ length (now all) ⌝ ∗ ⌜ length (now new) ≡ 128 ⌝ }
-    ensures { λ _. ⌜ Put (now (all .entry)) sector (now (new .entry)) (now (all .exit)) ⌝ }
+    ensures { λ _. ⌜ now (all .exit) ≡ put (now (all .entry)) sector (now (new .entry)) ⌝ }
 {
     let start = sector * SECTOR;
     all[start..start + SECTOR].copy_from_slice(new);

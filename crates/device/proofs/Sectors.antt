@@ -7,7 +7,7 @@ use native.Mathlib.Omega.{arith}
 use Rattle.std.proofs.shelf.Tests.{cases-lt}
 use lib.ListN.{length, take, drop}
 use borrow.Rule.Slice.PartMut.{putMid}
-use Rattle.std.proofs.shelf.Lists.{drop-at, take-at, drop-take, drop-drop, length-take-le}
+use Rattle.std.proofs.shelf.Lists.{drop-at, take-at, drop-take, drop-drop, length-take-le, length-append, length-drop}
 use Rattle.std.proofs.shelf.Parts.{take-putMid-below, drop-putMid}
 
 -- The bytes once `new` is put into sector s.
@@ -17,6 +17,11 @@ put xs s new = take (128 * s) xs ++ (new ++ drop (128 * s + 128) xs)
 -- as a write to a part of a slice leaves it
 put-is : (xs new : List ℕ) (s : ℕ) → put xs s new ≡ putMid (128 * s) 128 xs new
 put-is xs new s = ap (λ rest. take (128 * s) xs ++ (new ++ rest)) (sym (drop-drop 128 (128 * s) xs))
+
+pub length-put : (xs new : List ℕ) (s : ℕ) → length new ≡ 128 → 128 * s + 128 ≤ length xs → length (put xs s new) ≡ length xs
+length-put xs new s fits room =
+  let at : length (take (128 * s) xs) ≡ 128 * s = length-take-le (128 * s) xs (omega arith) in
+  simp (length-append, length-drop) (omega arith)
 
 pub put-there : (xs new : List ℕ) (s : ℕ) → length new ≡ 128 → 128 * s + 128 ≤ length xs → take 128 (drop (128 * s) (put xs s new)) ≡ new
 put-there xs new s fits room =
