@@ -82,3 +82,92 @@ kept c s n b e left =
 nothing-new : (c e : Card) (i : ℕ) → shown e i ≡ shown c i → Nothing-new (model c) (model e) i
 nothing-new c e i same x (inl is) = inl (is ∙ same)
 nothing-new c e i same x (inr none) = absurd none
+
+-- the ways a write ends, each with its answer put for r
+At : Card → ℕ → List ℕ → Card → Answer → Type 0
+At c s bytes e r = Write (model c) s bytes r (model e)
+
+addressed : (c : Card) (s n : ℕ) → Ready c s n → Addressed (model c) s n
+addressed c s n ready = record { there = ready .there; fits = ready .fits }
+
+did : (c : Card) (s : ℕ) (bytes : List ℕ) (n : ℕ) (e : Card) → Ready c s (length bytes) → Left c (put (c .bytes) s bytes) (set (c .flags) s 0) n true e → At c s bytes e (Ok tt)
+unfolding At
+did c s bytes n e ready left =
+  let seen = filled c s bytes n true e ready left in
+  record {
+    was-on = ready .on;
+    on = left .on;
+    plate = seen .same;
+    asked = addressed c s (length bytes) ready;
+    shown = seen .there;
+    kept = seen .elsewhere;
+    elsewhere = λ i other. nothing-new c e i (seen .elsewhere i other);
+    there = λ x. ⊎-elim (λ is. inr (addressed c s (length bytes) ready, inl (is ∙ seen .there))) absurd }
+
+-- power failed, and the sector shows x, which a write may leave there
+tore : (c : Card) (s : ℕ) (bytes : List ℕ) (x : Shown) (e : Card) → Ready c s (length bytes) → e .on ≡ false → Seen c s x e
+     → (x ≡ shown c s) ⊎ ((x ≡ holds bytes) ⊎ (x ≡ spoiled)) → At c s bytes e (Err (Power (c .origin)))
+unfolding At
+tore c s bytes x e ready off seen may =
+  inr record {
+    was-on = ready .on;
+    off = off;
+    plate = seen .same;
+    origin = inr (inl refl);
+    elsewhere = λ i other. nothing-new c e i (seen .elsewhere i other);
+    there = λ y. ⊎-elim
+      (λ is. ⊎-elim
+        (λ old. inl (inl (is ∙ seen .there ∙ old)))
+        (λ new. inr (addressed c s (length bytes) ready, ⊎-elim (λ h. inl (is ∙ seen .there ∙ h)) (λ h. inr (is ∙ seen .there ∙ h)) new))
+        may)
+      absurd }
+
+-- on and addressed, by the code of the plan
+obeyed : (c : Card) (s : ℕ) (bytes : List ℕ) (r : Answer) (e : Card) → Stored c s bytes r e → Ready c s (length bytes) → At c s bytes e r
+obeyed c s bytes r e h ready =
+  let P : Answer → Type 0 = At c s bytes e in
+  ⊎-elim
+    (λ zero. let w = h .done ready zero in subst P (sym (w .0)) (did c s bytes (next c) e ready (w .1)))
+    (λ not0. ⊎-elim
+      (λ one. let w = h .old ready one in
+        subst P (sym (w .0)) (tore c s bytes (shown c s) e ready (w .1 .on) (kept c s (next c) false e (w .1)) (inl refl)))
+      (λ not1. ⊎-elim
+        (λ two. let w = h .new ready two in
+          subst P (sym (w .0)) (tore c s bytes (holds bytes) e ready (w .1 .on) (filled c s bytes (next c) false e ready (w .1)) (inr (inl refl))))
+        (λ not2. let three : 3 ≤ code c = omega arith in let w = h .spoiled ready three in
+          subst P (sym (w .0)) (tore c s bytes spoiled e ready (w .1 .on) (marred c s (length bytes) (next c) false e ready (w .1)) (inr (inr refl))))
+        (cases-eq (code c) 2))
+      (cases-eq (code c) 1))
+    (cases-eq (code c) 0)
+
+refused : (c : Card) (s : ℕ) (bytes : List ℕ) (r : Answer) (e : Card) → Stored c s bytes r e → Wrong c s (length bytes) → At c s bytes e r
+unfolding At
+refused c s bytes r e h wrong =
+  let w = h .wrong wrong in
+  let P : Answer → Type 0 = At c s bytes e in
+  subst P (sym (w .0)) record { on = wrong .on; why = wrong .why; says = record { row = refl; told = refl }; same = ap model (w .1) }
+
+silenced : (c : Card) (s : ℕ) (bytes : List ℕ) (r : Answer) (e : Card) → Stored c s bytes r e → c .on ≡ false → At c s bytes e r
+unfolding At
+silenced c s bytes r e h off =
+  let w = h .off off in
+  let P : Answer → Type 0 = At c s bytes e in
+  subst P (sym (w .0)) (inl record { off = off; origin = refl; same = ap model (w .1) })
+
+-- on: addressed or not
+answered : (c : Card) (s : ℕ) (bytes : List ℕ) (r : Answer) (e : Card) → Stored c s bytes r e → c .on ≡ true → At c s bytes e r
+answered c s bytes r e h on =
+  ⊎-elim
+    (λ there. ⊎-elim
+      (λ fits. obeyed c s bytes r e h record { on = on; there = there; fits = fits })
+      (λ misfit. refused c s bytes r e h record { on = on; why = inr misfit })
+      (cases-eq (length bytes) 128))
+    (λ past. refused c s bytes r e h record { on = on; why = inl past })
+    (cases-lt s (sectors c))
+
+pub written : (c : Card) (s : ℕ) (bytes : List ℕ) (r : Answer) (e : Card) → Stored c s bytes r e → Write (model c) s bytes r (model e)
+unfolding At
+written c s bytes r e h =
+  let by : (b : Bool) → c .on ≡ b → At c s bytes e r =
+    λ b. elim b as (λ v. c .on ≡ v → At c s bytes e r) [ true ↦ answered c s bytes r e h | false ↦ silenced c s bytes r e h ] in
+  by (c .on) refl
