@@ -7,8 +7,8 @@ use mathlib.Core.List.{List, [], _∷_, _++_}
 use lib.ListN.{length, take, drop, replicate}
 use Rattle.std.specs.declared.result.Result.the-variants.{Ok, Err}
 use Rattle.battery.specs.declared.Battery.{Battery}
-use Rattle.device.specs.declared.fault.DeviceFault.the-variants.{Misaddressed}
-use Rattle.device.specs.Disk.{Disk, Shown, holds}
+use Rattle.device.specs.declared.fault.DeviceFault.the-variants.{Power, Misaddressed}
+use Rattle.device.specs.Disk.{Disk, holds}
 use Rattle.device.specs.Meaning.{Answer}
 
 -- The bytes of sector i.
@@ -31,7 +31,8 @@ model b = record {
   plate = record { sectors = 224; origin = b .origin; ends = b .origin ∷ []; blames = λ _. b .origin };
   on = true;
   shows = λ i. holds (cell (b .bytes) i);
-  others = λ _. [] }
+  others = λ _. [];
+}
 
 -- A new memory: zeros.
 pub record New (origin : ℕ) (b : Battery) : Type 0 where
@@ -55,12 +56,14 @@ misaddressed s origin = Err (Misaddressed s origin)
 pub record Fetched (b : Battery) (s : ℕ) (before : List ℕ) (r : Answer) (e : Battery) (after : List ℕ) : Type 0 where
   pub done : Right s (length before) → (r ≡ Ok tt) × (after ≡ cell (b .bytes) s)
   pub refused : Wrong s (length before) → (r ≡ misaddressed s (b .origin)) × (after ≡ before)
+  pub powered : (o : ℕ) → r ≡ Err (Power o) → ⊥
   pub same : e ≡ b
 
 -- A write of `new` to sector s: its answer, and the memory after it.
 pub record Stored (b : Battery) (s : ℕ) (new : List ℕ) (r : Answer) (e : Battery) : Type 0 where
   pub done : Right s (length new) → (r ≡ Ok tt) × (e .bytes ≡ put (b .bytes) s new)
   pub refused : Wrong s (length new) → (r ≡ misaddressed s (b .origin)) × (e .bytes ≡ b .bytes)
+  pub powered : (o : ℕ) → r ≡ Err (Power o) → ⊥
   pub origin : e .origin ≡ b .origin
 
 -- A call that succeeds and changes nothing.

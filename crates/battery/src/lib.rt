@@ -26,7 +26,10 @@ impl Battery {
     pub fn new(origin: u8) -> Self
         ensures { λ r. ⌜ New origin r ⌝ }
     {
-        Battery { bytes: [0; BYTES], origin }
+        Battery {
+            bytes: [0; BYTES],
+            origin,
+        }
     }
 }
 
@@ -36,7 +39,7 @@ pub impl Device for Battery as BatteryDevice {
     fn sectors(&self) -> usize
         ensures { λ r. ⌜ r ≡ 224 ⌝ }
     {
-        SECTORS
+        self.bytes.len() / SECTOR
     }
 
     // A buffer that is refused stays as it was.
@@ -67,14 +70,14 @@ pub impl Device for Battery as BatteryDevice {
         ensures meaning { λ r. ⌜ Barrier (model (now (self .entry))) r (model (now (self .exit))) ⌝ }
         ensures exact { λ r. ⌜ Idle (now (self .entry)) r (now (self .exit)) ⌝ }
     {
-        Ok(())
+        Ok(()) // What was written stands already.
     }
 
     fn restart(&mut self) -> Result<(), DeviceFault>
         ensures meaning { λ r. ⌜ Restart (model (now (self .entry))) r (model (now (self .exit))) ⌝ }
         ensures exact { λ r. ⌜ Idle (now (self .entry)) r (now (self .exit)) ⌝ }
     {
-        Ok(())
+        Ok(()) // It was never off.
     }
 }
 

@@ -77,6 +77,10 @@ pub record Left (c : Card) (bs fs : List ℕ) (n : ℕ) (is-on : Bool) (e : Card
   pub on : e .on ≡ is-on
   pub origin : e .origin ≡ c .origin
 
+-- These bytes were put into sector s, which is not spoiled then.
+abbrev pub Filled : Card → ℕ → List ℕ → Card → Type 0
+Filled c s bytes e = Left c (put (c .bytes) s bytes) (set (c .flags) s 0) (c .taken) (c .on) e
+
 -- Whether a call with sector s and a buffer of n bytes may go on.
 abbrev pub Admitted : Card → ℕ → ℕ → Answer → Type 0
 Admitted c s n (Ok _) = Ready c s n
@@ -88,6 +92,7 @@ pub record Fetched (c : Card) (s : ℕ) (before : List ℕ) (r : Answer) (e : Ca
   pub wrong : Wrong c s (length before) → (r ≡ misaddressed c s) × (after ≡ before)
   pub spoiled : Ready c s (length before) → 0 < flag c s → (r ≡ Err (Spoiled s (c .origin))) × (after ≡ before)
   pub done : Ready c s (length before) → flag c s ≡ 0 → (r ≡ Ok tt) × (after ≡ cell (c .bytes) s)
+  pub power : (o : ℕ) → r ≡ Err (Power o) → c .on ≡ false
   pub same : e ≡ c
 
 -- A write of `bytes` to sector s: its answer, and the device after it. Where it is on and addressed
@@ -99,6 +104,7 @@ pub record Stored (c : Card) (s : ℕ) (bytes : List ℕ) (r : Answer) (e : Card
   pub old : Ready c s (length bytes) → code c ≡ 1 → (r ≡ Err (Power (c .origin))) × Left c (c .bytes) (c .flags) (next c) false e
   pub new : Ready c s (length bytes) → code c ≡ 2 → (r ≡ Err (Power (c .origin))) × Left c (put (c .bytes) s bytes) (set (c .flags) s 0) (next c) false e
   pub spoiled : Ready c s (length bytes) → 3 ≤ code c → (r ≡ Err (Power (c .origin))) × Left c (c .bytes) (set (c .flags) s 1) (next c) false e
+  pub power : (o : ℕ) → r ≡ Err (Power o) → (c .on ≡ false) ⊎ (Ready c s (length bytes) × (1 ≤ code c))
 
 -- A barrier: it changes nothing.
 pub record Waited (c : Card) (r : Answer) (e : Card) : Type 0 where

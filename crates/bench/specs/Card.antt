@@ -62,4 +62,5 @@ model c = record {
   plate = record { sectors = sectors c; origin = c .origin; ends = c .origin ∷ []; blames = λ _. c .origin };
   on = c .on;
   shows = λ i. shown c i;
-  others = λ _. [] }
+  others = λ _. [];
+}

@@ -1,9 +1,9 @@
 // A bench device: sectors in the caller's bytes, and power that fails where a plan says so.
-ghost use Rattle.bench.specs.Calls.{Made, Known, Means, stays, Took, Left, Stored, Admitted, Fetched, Waited, Woken};
+ghost use Rattle.bench.specs.Calls.{Made, Known, Means, stays, Took, Filled, Stored, Admitted, Fetched, Waited, Woken};
 ghost use Rattle.bench.specs.Card.{card, cell, code-at, put, model, sectors};
 ghost use Rattle.device.specs.Meaning.{Read, Write, Barrier, Restart};
 ghost use lib.Dec.{T};
-ghost use lib.ListN.{length, set};
+ghost use lib.ListN.{length};
 ghost use Prim.Native.Nat.{_+_, _*_, _<_, _≤_};
 ghost use mathlib.Core.Bool.{true};
 ghost use mathlib.Core.Path.{_≡_};
@@ -11,20 +11,37 @@ use device::Device;
 use device::DeviceFault;
 use device::SECTOR;
 
-// The codes of a plan.
+// The codes of a plan, one for each thing that may become of a write.
 const DONE: u8 = 0;
+
 const OLD: u8 = 1;
+
 const NEW: u8 = 2;
+
 const SPOILED: u8 = 3;
 
-// What becomes of a write: power stays on, or it fails and leaves the old contents, the new ones, or
-// a spoiled sector.
+// What becomes of a write: it is done, or power fails and leaves the old contents, the new ones, or a
+// spoiled sector.
 #[derive(Clone, Copy)]
 enum Fate {
     Done,
     Old,
     New,
     Spoiled,
+}
+
+impl Fate {
+    // What a code of the plan says. A device that was made has no code above SPOILED.
+    fn of(code: u8) -> Fate
+        ensures { λ r. ⌜ Means code r ⌝ }
+    {
+        match code {
+            DONE => Fate::Done,
+            OLD => Fate::Old,
+            NEW => Fate::New,
+            _ => Fate::Spoiled,
+        }
+    }
 }
 
 // Power that fails where a plan says so.
@@ -65,33 +82,47 @@ pub struct Bench<'a> {
 
 impl<'a> Bench<'a> {
     // A device that is on, with no code of the plan taken.
-    pub fn new(bytes: &'a mut [u8], flags: &'a mut [u8], plan: &'a [u8], origin: u8) -> Result<Bench<'a>, DeviceFault>
+    pub fn new(
+        bytes: &'a mut [u8],
+        flags: &'a mut [u8],
+        plan: &'a [u8],
+        origin: u8,
+    ) -> Result<Bench<'a>, DeviceFault>
         ensures { λ r. ⌜ Made (now (bytes .entry)) (now (flags .entry)) (now (plan .entry)) origin r ⌝ }
     {
         // The product might not fit a usize, so the lengths are compared by division.
         let whole = bytes.len() % SECTOR == 0 && bytes.len() / SECTOR == flags.len();
         if whole && known(plan) {
-            let supply = Supply { plan, taken: 0, on: true };
-            Ok(Bench { bytes, flags, supply, origin })
+            let supply = Supply {
+                plan,
+                taken: 0,
+                on: true,
+            };
+            Ok(Bench {
+                bytes,
+                flags,
+                supply,
+                origin,
+            })
         } else {
             Err(DeviceFault::Unfit)
         }
     }
 
     // Off comes before a wrong sector or buffer.
-    fn admit(&self, sector: usize, length: usize) -> Result<(), DeviceFault>
-        ensures { λ r. ⌜ Admitted (card (now (self .entry))) sector length r ⌝ }
+    fn admit(&self, sector: usize, size: usize) -> Result<(), DeviceFault>
+        ensures { λ r. ⌜ Admitted (card (now (self .entry))) sector size r ⌝ }
     {
         if !self.supply.on {
             return Err(DeviceFault::Power(0));
         }
-        if sector >= self.count() || length != SECTOR {
+        if sector >= self.count() || size != SECTOR {
             return Err(DeviceFault::Misaddressed(sector, self.origin));
         }
         Ok(())
     }
 
-    // As many sectors as have both their bytes and a flag.
+    // As many sectors as have both their bytes and a flag: in a device that was made, all.
     fn count(&self) -> usize
         ensures { λ r. ⌜ r ≡ sectors (card (now (self .entry))) ⌝ }
     {
@@ -110,7 +141,7 @@ impl<'a> Bench<'a> {
     // Writes a sector, which is then not spoiled.
     fn fill(&mut self, sector: usize, bytes: &[u8])
         requires { ⌜ sector < sectors (card (now self)) ⌝ ∗ ⌜ length (now bytes) ≡ 128 ⌝ }
-        ensures { λ _. ⌜ Left (card (now (self .entry))) (put (now (now (self .entry) .bytes)) sector (now (bytes .entry))) (set (now (now (self .entry) .flags)) sector 0) (now (self .entry) .supply .taken) (now (self .entry) .supply .on) (card (now (self .exit))) ⌝ }
+        ensures { λ _. ⌜ Filled (card (now (self .entry))) sector (now (bytes .entry)) (card (now (self .exit))) ⌝ }
     {
         put(self.bytes, sector, bytes);
         self.flags[sector] = 0;
@@ -172,7 +203,11 @@ pub impl<'a> Device for Bench<'a> as BenchDevice {
         ensures meaning { λ r. ⌜ Barrier (model (card (now (self .entry)))) r (model (card (now (self .exit)))) ⌝ }
         ensures exact { λ r. ⌜ Waited (card (now (self .entry))) r (card (now (self .exit))) ⌝ }
     {
-        if self.supply.on { Ok(()) } else { Err(DeviceFault::Power(0)) }
+        if self.supply.on {
+            Ok(())
+        } else {
+            Err(DeviceFault::Power(0))
+        }
     }
 
     // The plan goes on where it was.
@@ -182,19 +217,6 @@ pub impl<'a> Device for Bench<'a> as BenchDevice {
     {
         self.supply.on = true;
         Ok(())
-    }
-}
-
-impl Fate {
-    fn of(code: u8) -> Fate
-        ensures { λ r. ⌜ Means code r ⌝ }
-    {
-        match code {
-            DONE => Fate::Done,
-            OLD => Fate::Old,
-            NEW => Fate::New,
-            _ => Fate::Spoiled,
-        }
     }
 }
 

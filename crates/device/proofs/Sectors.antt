@@ -20,26 +20,26 @@ put-is xs new s = ap (λ rest. take (128 * s) xs ++ (new ++ rest)) (sym (drop-dr
 
 pub length-put : (xs new : List ℕ) (s : ℕ) → length new ≡ 128 → 128 * s + 128 ≤ length xs → length (put xs s new) ≡ length xs
 length-put xs new s fits room =
-  let at : length (take (128 * s) xs) ≡ 128 * s = length-take-le (128 * s) xs (omega arith) in
-  simp (length-append, length-drop) (omega arith)
+    let at : length (take (128 * s) xs) ≡ 128 * s = length-take-le (128 * s) xs (omega arith) in
+    simp (length-append, length-drop) (omega arith)
 
 pub put-there : (xs new : List ℕ) (s : ℕ) → length new ≡ 128 → 128 * s + 128 ≤ length xs → take 128 (drop (128 * s) (put xs s new)) ≡ new
 put-there xs new s fits room =
-  ap (λ ys. take 128 ys) (drop-at (take (128 * s) xs) (new ++ drop (128 * s + 128) xs) (128 * s) (length-take-le (128 * s) xs (omega arith)))
-  ∙ take-at new (drop (128 * s + 128) xs) 128 fits
+    ap (λ ys. take 128 ys) (drop-at (take (128 * s) xs) (new ++ drop (128 * s + 128) xs) (128 * s) (length-take-le (128 * s) xs (omega arith)))
+    ∙ take-at new (drop (128 * s + 128) xs) 128 fits
 
 -- a part that lies before the one that was written, or after it, is as it was
 before : (a k b n : ℕ) (xs ys : List ℕ) → b + n ≤ a → a ≤ length xs → take n (drop b (putMid a k xs ys)) ≡ take n (drop b xs)
 before a k b n xs ys below room =
-  sym (drop-take b n (putMid a k xs ys)) ∙ ap (λ zs. drop b zs) (take-putMid-below a k xs ys (b + n) below room) ∙ drop-take b n xs
+    sym (drop-take b n (putMid a k xs ys)) ∙ ap (λ zs. drop b zs) (take-putMid-below a k xs ys (b + n) below room) ∙ drop-take b n xs
 
 after : (a k b n : ℕ) (xs ys : List ℕ) → a + k ≤ b → a ≤ length xs → length ys ≡ k → take n (drop b (putMid a k xs ys)) ≡ take n (drop b xs)
 after a k b n xs ys above room fits = ap (λ zs. take n zs) (drop-putMid a k xs ys b above room fits)
 
 pub put-elsewhere : (xs new : List ℕ) (s i : ℕ) → length new ≡ 128 → 128 * s + 128 ≤ length xs → i ≢ s → take 128 (drop (128 * i) (put xs s new)) ≡ take 128 (drop (128 * i) xs)
 put-elsewhere xs new s i fits room other =
-  ap (λ ys. take 128 (drop (128 * i) ys)) (put-is xs new s)
-  ∙ ⊎-elim
+    ap (λ ys. take 128 (drop (128 * i) ys)) (put-is xs new s)
+    ∙ ⊎-elim
     (λ (h : i < s). before (128 * s) 128 (128 * i) 128 xs new (omega arith) (omega arith))
     (λ (h : s ≤ i). after (128 * s) 128 (128 * i) 128 xs new (omega arith) (omega arith) fits)
     (cases-lt i s)
@@ -47,5 +47,5 @@ put-elsewhere xs new s i fits room other =
 -- the same after a write to the part from a, k bytes long
 pub put-made : (xs new ys : List ℕ) (s a k : ℕ) → a ≡ 128 * s → k ≡ 128 → ys ≡ new → putMid a k xs ys ≡ put xs s new
 put-made xs new ys s a k start long same =
-  ap (λ (n : ℕ). putMid n k xs ys) start ∙ ap (λ (n : ℕ). putMid (128 * s) n xs ys) long
-  ∙ ap (λ (zs : List ℕ). putMid (128 * s) 128 xs zs) same ∙ sym (put-is xs new s)
+    ap (λ (n : ℕ). putMid n k xs ys) start ∙ ap (λ (n : ℕ). putMid (128 * s) n xs ys) long
+    ∙ ap (λ (zs : List ℕ). putMid (128 * s) 128 xs zs) same ∙ sym (put-is xs new s)
