@@ -1,3 +1,4 @@
--- Lemmas that every layer over a device may want.
+-- Lemmas that every device may want.
 pub mod Membership
 pub mod Changes
+pub mod Sectors

@@ -1,0 +1,2 @@
+-- What a battery memory holds, and what each call does to it.
+pub mod Memory

@@ -1,0 +1,3 @@
+-- What a bench device holds, and what each call does to it.
+pub mod Card
+pub mod Calls
