@@ -2,8 +2,8 @@
 use crate::words::byte;
 use crate::words::bytes;
 use crate::words::codes;
-use crate::words::number;
-use crate::words::number_to;
+use crate::words::sector_number;
+use crate::words::size_to;
 use std::alloc::AllocError;
 use std::alloc::Global;
 
@@ -28,12 +28,12 @@ pub enum Shape {
 // What is done to a card while no pile is in use.
 #[derive(Drop)]
 pub enum CardCommand {
-    Blank(u64),
-    Poke(u64, Vec<u8>),
-    Spoil(u64),
+    Blank(usize),
+    Poke(usize, Vec<u8>),
+    Spoil(usize),
     Plan(Vec<u8>),
     Origin(u8),
-    Show(u64),
+    Show(usize),
     Dump,
 }
 
@@ -41,8 +41,8 @@ pub enum CardCommand {
 #[derive(Drop)]
 pub enum DeviceCommand {
     Count,
-    Read(u64, u64),
-    Write(u64, Vec<u8>),
+    Read(usize, usize),
+    Write(usize, Vec<u8>),
     Barrier,
     Restart,
 }
@@ -64,9 +64,9 @@ pub enum Line {
 }
 
 // The most sectors that a card may have, and the longest buffer that a read may be given.
-const CARD_MOST: u64 = 2000;
+const CARD_MOST: usize = 2000;
 
-const READ_MOST: u64 = 256;
+const READ_MOST: usize = 256;
 
 fn named(word: &str) -> Option<Side> {
     match word {
@@ -91,15 +91,15 @@ fn pile(words: &[&str]) -> Option<Shape> {
 // What is to be done to a card, from the words without the card's name.
 fn card_command(heap: Global, verb: &str, rest: &[&str]) -> Result<Option<CardCommand>, AllocError> {
     match (verb, rest) {
-        ("card", [sectors]) => Ok(match number_to(sectors, CARD_MOST) {
+        ("card", [sectors]) => Ok(match size_to(sectors, CARD_MOST) {
             Some(n) => Some(CardCommand::Blank(n)),
             None => None,
         }),
-        ("poke", [sector, hex]) => Ok(match (number(sector), bytes(heap, hex)?) {
+        ("poke", [sector, hex]) => Ok(match (sector_number(sector), bytes(heap, hex)?) {
             (Some(n), Some(b)) => Some(CardCommand::Poke(n, b)),
             _ => None,
         }),
-        ("spoil", [sector]) => Ok(match number(sector) {
+        ("spoil", [sector]) => Ok(match sector_number(sector) {
             Some(n) => Some(CardCommand::Spoil(n)),
             None => None,
         }),
@@ -111,7 +111,7 @@ fn card_command(heap: Global, verb: &str, rest: &[&str]) -> Result<Option<CardCo
             Some(b) => Some(CardCommand::Origin(b)),
             None => None,
         }),
-        ("show", [sector]) => Ok(match number(sector) {
+        ("show", [sector]) => Ok(match sector_number(sector) {
             Some(n) => Some(CardCommand::Show(n)),
             None => None,
         }),
@@ -123,11 +123,11 @@ fn card_command(heap: Global, verb: &str, rest: &[&str]) -> Result<Option<CardCo
 fn device_command(heap: Global, words: &[&str]) -> Result<Option<DeviceCommand>, AllocError> {
     match words {
         ["count"] => Ok(Some(DeviceCommand::Count)),
-        ["read", sector, length] => Ok(match (number(sector), number_to(length, READ_MOST)) {
+        ["read", sector, length] => Ok(match (sector_number(sector), size_to(length, READ_MOST)) {
             (Some(s), Some(n)) => Some(DeviceCommand::Read(s, n)),
             _ => None,
         }),
-        ["write", sector, hex] => Ok(match (number(sector), bytes(heap, hex)?) {
+        ["write", sector, hex] => Ok(match (sector_number(sector), bytes(heap, hex)?) {
             (Some(s), Some(b)) => Some(DeviceCommand::Write(s, b)),
             _ => None,
         }),

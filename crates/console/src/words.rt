@@ -3,7 +3,7 @@ use std::alloc::AllocError;
 use std::alloc::Global;
 
 // A decimal number that a u64 holds: digits alone, at least one.
-pub fn number(word: &str) -> Option<u64> {
+fn number(word: &str) -> Option<u64> {
     let digits = word.as_bytes();
     if digits.is_empty() {
         return None;
@@ -18,10 +18,18 @@ pub fn number(word: &str) -> Option<u64> {
     Some(value)
 }
 
-// A number up to `most`.
-pub fn number_to(word: &str, most: u64) -> Option<u64> {
-    let value = number(word)?;
-    if value <= most { Some(value) } else { None }
+// The number of a sector. Every u64 is a usize here.
+pub fn sector_number(word: &str) -> Option<usize> {
+    match usize::try_from(number(word)?) {
+        Ok(n) => Some(n),
+        Err(_) => None,
+    }
+}
+
+// A size up to `most`.
+pub fn size_to(word: &str, most: usize) -> Option<usize> {
+    let n = sector_number(word)?;
+    if n <= most { Some(n) } else { None }
 }
 
 // A number that a byte holds.
