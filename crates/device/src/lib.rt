@@ -6,6 +6,9 @@ ghost use mathlib.Core.Path.{_≡_};
 mod fault;
 
 pub use fault::DeviceFault;
+pub use fault::DeviceFaultDebug;
+pub use fault::DeviceFaultEq;
+pub use fault::DeviceFaultPartialEq;
 
 // The number of bytes in a sector.
 pub const SECTOR: usize = 128;

@@ -1,0 +1,110 @@
+// A table for each device.
+use super::*;
+use battery::Battery;
+use battery::BatteryDevice;
+use bench::Bench;
+use bench::BenchDevice;
+use mirror::Mirror;
+use mirror::MirrorDevice;
+use std::test::*;
+
+// Makes the calls of a table in turn, and holds each answer to the one beside it.
+fn holds<D: Device>(device: &mut D, table: &[(Call, Reply)]) -> Result<(), Fail> {
+    for (call, reply) in table {
+        check_eq(play(device, *call), *reply)?;
+    }
+    Ok(())
+}
+
+#[test]
+fn battery_keeps_everything() -> Result<(), Fail> {
+    let mut device = Battery::new(7);
+    holds(
+        &mut device,
+        &[
+            (Call::Count, Reply::Sectors(224)),
+            (Call::Read(223), Reply::Full(0)),
+            (Call::Write(223, 5), Reply::Done),
+            (Call::Restart, Reply::Done),
+            (Call::Read(223), Reply::Full(5)),
+            (Call::Read(222), Reply::Full(0)),
+            (Call::Barrier, Reply::Done),
+            (Call::Write(224, 5), Reply::No(DeviceFault::Misaddressed(224, 7))),
+            (Call::WriteOnly(0, 127), Reply::No(DeviceFault::Misaddressed(0, 7))),
+            (Call::ReadInto(0, 129), Reply::No(DeviceFault::Misaddressed(0, 7))),
+            (Call::Read(0), Reply::Full(0)),
+        ],
+    )
+}
+
+#[test]
+fn bench_takes_a_code_for_each_write() -> Result<(), Fail> {
+    let mut bytes = [0u8; 512];
+    let mut flags = [0u8; 4];
+    let plan = [0u8, 1, 2, 3];
+    let mut device = Bench::new(&mut bytes, &mut flags, &plan, 9)?;
+    holds(
+        &mut device,
+        &[
+            (Call::Write(0, 1), Reply::Done),
+            (Call::Write(4, 1), Reply::No(DeviceFault::Misaddressed(4, 9))),
+            (Call::Write(0, 2), Reply::No(DeviceFault::Power(9))),
+            (Call::Read(0), Reply::No(DeviceFault::Power(0))),
+            (Call::Barrier, Reply::No(DeviceFault::Power(0))),
+            (Call::Write(9, 2), Reply::No(DeviceFault::Power(0))),
+            (Call::Restart, Reply::Done),
+            (Call::Read(0), Reply::Full(1)),
+            (Call::Write(0, 3), Reply::No(DeviceFault::Power(9))),
+            (Call::Restart, Reply::Done),
+            (Call::Read(0), Reply::Full(3)),
+            (Call::Write(0, 4), Reply::No(DeviceFault::Power(9))),
+            (Call::Restart, Reply::Done),
+            (Call::Read(0), Reply::No(DeviceFault::Spoiled(0, 9))),
+            (Call::Write(0, 5), Reply::Done),
+            (Call::Read(0), Reply::Full(5)),
+        ],
+    )
+}
+
+fn fits(bytes: &mut [u8], flags: &mut [u8], plan: &[u8]) -> bool {
+    Bench::new(bytes, flags, plan, 1).is_ok()
+}
+
+#[test]
+fn bench_refuses_what_does_not_fit() -> Result<(), Fail> {
+    let mut bytes = [0u8; 129];
+    let mut flags = [0u8; 2];
+    check(!fits(&mut bytes, &mut flags[0..1], &[]))?;
+    check(!fits(&mut bytes[0..128], &mut flags, &[]))?;
+    check(!fits(&mut bytes[0..128], &mut flags[0..1], &[4]))?;
+    check(fits(&mut bytes[0..128], &mut flags[0..1], &[3]))?;
+    check(fits(&mut bytes[0..0], &mut flags[0..0], &[]))
+}
+
+// Two cards of two sectors: left with origin 1, right with origin 2.
+#[test]
+fn mirror_works_right_then_left() -> Result<(), Fail> {
+    let (mut lb, mut lf) = ([0u8; 256], [0u8; 2]);
+    let (mut rb, mut rf) = ([0u8; 256], [0u8; 2]);
+    let left = Bench::new(&mut lb, &mut lf, &[0, 3, 3], 1)?;
+    let right = Bench::new(&mut rb, &mut rf, &[0, 0, 1, 3], 2)?;
+    let mut device = Mirror::new(left, right);
+    holds(
+        &mut device,
+        &[
+            (Call::Count, Reply::Sectors(2)),
+            (Call::Write(0, 1), Reply::Done),
+            (Call::Write(2, 1), Reply::No(DeviceFault::Misaddressed(2, 0))),
+            (Call::Write(0, 2), Reply::No(DeviceFault::Power(1))),
+            (Call::Read(0), Reply::No(DeviceFault::Power(0))),
+            (Call::Restart, Reply::Done),
+            (Call::Read(0), Reply::Full(2)),
+            (Call::Write(0, 3), Reply::No(DeviceFault::Power(2))),
+            (Call::Restart, Reply::Done),
+            (Call::Read(0), Reply::Full(2)),
+            (Call::Write(0, 4), Reply::No(DeviceFault::Power(2))),
+            (Call::Restart, Reply::Done),
+            (Call::Read(0), Reply::No(DeviceFault::Spoiled(0, 2))),
+        ],
+    )
+}
