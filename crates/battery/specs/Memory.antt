@@ -52,18 +52,18 @@ Wrong s n = (224 ≤ s) ⊎ (n ≢ 128)
 abbrev pub misaddressed : ℕ → ℕ → Answer
 misaddressed s origin = Err (Misaddressed s origin)
 
--- A read of sector s: its answer, and the memory and the buffer after it.
+-- A read of sector s: its answer, and the memory and the buffer after it. Power never fails.
 pub record Fetched (b : Battery) (s : ℕ) (before : List ℕ) (r : Answer) (e : Battery) (after : List ℕ) : Type 0 where
   pub done : Right s (length before) → (r ≡ Ok tt) × (after ≡ cell (b .bytes) s)
   pub refused : Wrong s (length before) → (r ≡ misaddressed s (b .origin)) × (after ≡ before)
-  pub powered : (o : ℕ) → r ≡ Err (Power o) → ⊥
+  pub power : (o : ℕ) → r ≡ Err (Power o) → ⊥
   pub same : e ≡ b
 
--- A write of `new` to sector s: its answer, and the memory after it.
+-- A write of `new` to sector s: its answer, and the memory after it. Power never fails.
 pub record Stored (b : Battery) (s : ℕ) (new : List ℕ) (r : Answer) (e : Battery) : Type 0 where
   pub done : Right s (length new) → (r ≡ Ok tt) × (e .bytes ≡ put (b .bytes) s new)
   pub refused : Wrong s (length new) → (r ≡ misaddressed s (b .origin)) × (e .bytes ≡ b .bytes)
-  pub powered : (o : ℕ) → r ≡ Err (Power o) → ⊥
+  pub power : (o : ℕ) → r ≡ Err (Power o) → ⊥
   pub origin : e .origin ≡ b .origin
 
 -- A call that succeeds and changes nothing.

@@ -38,7 +38,7 @@ Means n fates.Old = n ≡ 1
 Means n fates.New = n ≡ 2
 Means n fates.Spoiled = 3 ≤ n
 
--- Power stays on.
+-- Whether power stays on.
 abbrev pub stays : Fate → Bool
 stays fates.Done = true
 stays fates.Old = false

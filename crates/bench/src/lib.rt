@@ -81,7 +81,8 @@ pub struct Bench<'a> {
 }
 
 impl<'a> Bench<'a> {
-    // A device that is on, with no code of the plan taken.
+    // A device that is on, with no code of the plan taken. The three slices are lent for one lifetime,
+    // so it is made where they are parameters under one.
     pub fn new(
         bytes: &'a mut [u8],
         flags: &'a mut [u8],
