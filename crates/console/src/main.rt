@@ -35,16 +35,40 @@ fn refuse(rt: &LibcRuntime, fault: DeviceFault) -> Result<(), AnyError> {
     Ok(())
 }
 
-fn use_bench(rt: &LibcRuntime, input: &mut BufReader<Stdin>, card: &mut Card) -> Result<(), AnyError> {
-    match Bench::new(card.bytes.as_mut_slice(), card.flags.as_mut_slice(), card.plan.as_slice(), card.origin) {
+fn use_bench(
+    rt: &LibcRuntime,
+    input: &mut BufReader<Stdin>,
+    card: &mut Card,
+) -> Result<(), AnyError> {
+    match Bench::new(
+        card.bytes.as_mut_slice(),
+        card.flags.as_mut_slice(),
+        card.plan.as_slice(),
+        card.origin,
+    ) {
         Ok(device) => serve(rt, input, device),
         Err(fault) => refuse(rt, fault),
     }
 }
 
-fn use_mirror(rt: &LibcRuntime, input: &mut BufReader<Stdin>, left: &mut Card, right: &mut Card) -> Result<(), AnyError> {
-    let l = Bench::new(left.bytes.as_mut_slice(), left.flags.as_mut_slice(), left.plan.as_slice(), left.origin);
-    let r = Bench::new(right.bytes.as_mut_slice(), right.flags.as_mut_slice(), right.plan.as_slice(), right.origin);
+fn use_mirror(
+    rt: &LibcRuntime,
+    input: &mut BufReader<Stdin>,
+    left: &mut Card,
+    right: &mut Card,
+) -> Result<(), AnyError> {
+    let l = Bench::new(
+        left.bytes.as_mut_slice(),
+        left.flags.as_mut_slice(),
+        left.plan.as_slice(),
+        left.origin,
+    );
+    let r = Bench::new(
+        right.bytes.as_mut_slice(),
+        right.flags.as_mut_slice(),
+        right.plan.as_slice(),
+        right.origin,
+    );
     match (l, r) {
         (Ok(l), Ok(r)) => serve(rt, input, Mirror::new(l, r)),
         (Err(fault), _) => refuse(rt, fault),
@@ -52,7 +76,13 @@ fn use_mirror(rt: &LibcRuntime, input: &mut BufReader<Stdin>, left: &mut Card, r
     }
 }
 
-fn put_in_use(rt: &LibcRuntime, input: &mut BufReader<Stdin>, shape: Shape, left: &mut Card, right: &mut Card) -> Result<(), AnyError> {
+fn put_in_use(
+    rt: &LibcRuntime,
+    input: &mut BufReader<Stdin>,
+    shape: Shape,
+    left: &mut Card,
+    right: &mut Card,
+) -> Result<(), AnyError> {
     match shape {
         Shape::Battery(origin) => serve(rt, input, Battery::new(origin)),
         Shape::Bench(Side::Left) => use_bench(rt, input, left),
@@ -71,7 +101,12 @@ struct Console {
 
 impl Console {
     // Does what a command says while no pile is in use.
-    fn obey(&mut self, rt: &LibcRuntime, input: &mut BufReader<Stdin>, command: Command) -> Result<(), AnyError> {
+    fn obey(
+        &mut self,
+        rt: &LibcRuntime,
+        input: &mut BufReader<Stdin>,
+        command: Command,
+    ) -> Result<(), AnyError> {
         match command {
             Command::Card(Side::Left, command) => self.left.obey(rt, command),
             Command::Card(Side::Right, command) => self.right.obey(rt, command),
@@ -81,7 +116,12 @@ impl Console {
         }
     }
 
-    fn step(&mut self, rt: &LibcRuntime, input: &mut BufReader<Stdin>, line: &[u8]) -> Result<(), AnyError> {
+    fn step(
+        &mut self,
+        rt: &LibcRuntime,
+        input: &mut BufReader<Stdin>,
+        line: &[u8],
+    ) -> Result<(), AnyError> {
         match parse(rt.alloc(), line)? {
             Line::Empty => {}
             Line::Bad => println!(rt, "bad line")?,

@@ -43,7 +43,12 @@ fn done(heap: Global, answer: Result<(), DeviceFault>) -> Result<String, AllocEr
     }
 }
 
-fn read<D: Device>(heap: Global, device: &mut D, sector: usize, length: usize) -> Result<String, AllocError> {
+fn read<D: Device>(
+    heap: Global,
+    device: &mut D,
+    sector: usize,
+    length: usize,
+) -> Result<String, AllocError> {
     let mut buffer = vec![in heap; 0u8; length]?;
     match device.read(sector, buffer.as_mut_slice()) {
         Ok(()) => {
@@ -55,7 +60,11 @@ fn read<D: Device>(heap: Global, device: &mut D, sector: usize, length: usize) -
 }
 
 // Makes one call of the device.
-fn made<D: Device>(heap: Global, device: &mut D, command: DeviceCommand) -> Result<String, AllocError> {
+fn made<D: Device>(
+    heap: Global,
+    device: &mut D,
+    command: DeviceCommand,
+) -> Result<String, AllocError> {
     match command {
         DeviceCommand::Count => {
             let count = device.sectors();
@@ -103,7 +112,11 @@ fn step<D: Device>(rt: &LibcRuntime, device: &mut D, line: &[u8]) -> Result<Next
 
 // Says how many sectors the pile has, then works through the input until the pile is let go or the
 // input ends.
-pub fn serve<D: Device + Drop>(rt: &LibcRuntime, input: &mut BufReader<Stdin>, mut device: D) -> Result<(), AnyError> {
+pub fn serve<D: Device + Drop>(
+    rt: &LibcRuntime,
+    input: &mut BufReader<Stdin>,
+    mut device: D,
+) -> Result<(), AnyError> {
     let count = device.sectors();
     println!(rt, "ok {count}")?;
     for _ in 0..u64::MAX {

@@ -13,7 +13,9 @@ fn number(word: &str) -> Option<u64> {
         let (b'0'..=b'9') = *digit else {
             return None;
         };
-        value = value.checked_mul(10)?.checked_add(u64::from(*digit - b'0'))?;
+        value = value
+            .checked_mul(10)?
+            .checked_add(u64::from(*digit - b'0'))?;
     }
     Some(value)
 }

@@ -29,9 +29,18 @@ fn battery_keeps_everything() -> Result<(), Fail> {
             (Call::Read(223), Reply::Full(5)),
             (Call::Read(222), Reply::Full(0)),
             (Call::Barrier, Reply::Done),
-            (Call::Write(224, 5), Reply::No(DeviceFault::Misaddressed(224, 7))),
-            (Call::WriteOnly(0, 127), Reply::No(DeviceFault::Misaddressed(0, 7))),
-            (Call::ReadInto(0, 129), Reply::No(DeviceFault::Misaddressed(0, 7))),
+            (
+                Call::Write(224, 5),
+                Reply::No(DeviceFault::Misaddressed(224, 7)),
+            ),
+            (
+                Call::WriteOnly(0, 127),
+                Reply::No(DeviceFault::Misaddressed(0, 7)),
+            ),
+            (
+                Call::ReadInto(0, 129),
+                Reply::No(DeviceFault::Misaddressed(0, 7)),
+            ),
             (Call::Read(0), Reply::Full(0)),
         ],
     )
@@ -47,7 +56,10 @@ fn bench_takes_a_code_for_each_write() -> Result<(), Fail> {
         &mut device,
         &[
             (Call::Write(0, 1), Reply::Done),
-            (Call::Write(4, 1), Reply::No(DeviceFault::Misaddressed(4, 9))),
+            (
+                Call::Write(4, 1),
+                Reply::No(DeviceFault::Misaddressed(4, 9)),
+            ),
             (Call::Write(0, 2), Reply::No(DeviceFault::Power(9))),
             (Call::Read(0), Reply::No(DeviceFault::Power(0))),
             (Call::Barrier, Reply::No(DeviceFault::Power(0))),
@@ -66,35 +78,65 @@ fn bench_takes_a_code_for_each_write() -> Result<(), Fail> {
     )
 }
 
-fn fits(bytes: &mut [u8], flags: &mut [u8], plan: &[u8]) -> bool {
+fn makes<'a>(bytes: &'a mut [u8], flags: &'a mut [u8], plan: &'a [u8]) -> bool {
     Bench::new(bytes, flags, plan, 1).is_ok()
+}
+
+// Whether a device is made of this many bytes and flags, and this plan.
+fn fits(size: usize, sectors: usize, plan: &[u8]) -> bool {
+    let mut bytes = [0u8; 256];
+    let mut flags = [0u8; 2];
+    makes(
+        &mut bytes[0..size.min(256)],
+        &mut flags[0..sectors.min(2)],
+        plan,
+    )
 }
 
 #[test]
 fn bench_refuses_what_does_not_fit() -> Result<(), Fail> {
-    let mut bytes = [0u8; 129];
-    let mut flags = [0u8; 2];
-    check(!fits(&mut bytes, &mut flags[0..1], &[]))?;
-    check(!fits(&mut bytes[0..128], &mut flags, &[]))?;
-    check(!fits(&mut bytes[0..128], &mut flags[0..1], &[4]))?;
-    check(fits(&mut bytes[0..128], &mut flags[0..1], &[3]))?;
-    check(fits(&mut bytes[0..0], &mut flags[0..0], &[]))
+    check(!fits(129, 1, &[]))?;
+    check(!fits(127, 1, &[]))?;
+    check(!fits(128, 2, &[]))?;
+    check(!fits(128, 1, &[0, 4]))?;
+    check(fits(128, 1, &[3]))?;
+    check(fits(256, 2, &[]))?;
+    check(fits(0, 0, &[]))
 }
 
-// Two cards of two sectors: left with origin 1, right with origin 2.
+// Left and right are cards with origins 1 and 2.
+fn mirror_holds<'a>(
+    left: &'a mut [u8],
+    left_flags: &'a mut [u8],
+    left_plan: &'a [u8],
+    right: &'a mut [u8],
+    right_flags: &'a mut [u8],
+    right_plan: &'a [u8],
+    table: &[(Call, Reply)],
+) -> Result<(), Fail> {
+    let left = Bench::new(left, left_flags, left_plan, 1)?;
+    let right = Bench::new(right, right_flags, right_plan, 2)?;
+    holds(&mut Mirror::new(left, right), table)
+}
+
 #[test]
 fn mirror_works_right_then_left() -> Result<(), Fail> {
     let (mut lb, mut lf) = ([0u8; 256], [0u8; 2]);
     let (mut rb, mut rf) = ([0u8; 256], [0u8; 2]);
-    let left = Bench::new(&mut lb, &mut lf, &[0, 3, 3], 1)?;
-    let right = Bench::new(&mut rb, &mut rf, &[0, 0, 1, 3], 2)?;
-    let mut device = Mirror::new(left, right);
-    holds(
-        &mut device,
+    mirror_holds(
+        &mut lb,
+        &mut lf,
+        &[0, 3, 3],
+        &mut rb,
+        &mut rf,
+        &[0, 0, 1, 3],
         &[
             (Call::Count, Reply::Sectors(2)),
             (Call::Write(0, 1), Reply::Done),
-            (Call::Write(2, 1), Reply::No(DeviceFault::Misaddressed(2, 0))),
+            (
+                Call::Write(2, 1),
+                Reply::No(DeviceFault::Misaddressed(2, 0)),
+            ),
             (Call::Write(0, 2), Reply::No(DeviceFault::Power(1))),
             (Call::Read(0), Reply::No(DeviceFault::Power(0))),
             (Call::Restart, Reply::Done),
