@@ -1,0 +1,3 @@
+-- What a write cache does, exactly.
+pub mod Line
+pub mod Held
