@@ -17,5 +17,5 @@ abbrev pub ring : {A : Type 0} → ℕ → List A → List A
 ring n xs = drop n xs ++ take n xs
 
 -- The held sectors, the longest held first: from the first slot on, as many as are held.
-abbrev pub held : Held → List Line
-held h = map line-of (take (h .count) (ring (h .first) (h .slots)))
+abbrev pub in-turn : Held → List Line
+in-turn h = map line-of (take (h .count) (ring (h .first) (h .slots)))

@@ -1,8 +1,9 @@
 -- The sectors that a cache holds, as a list, the longest held first.
 use Prim.Native.Nat.{ℕ}
-use mathlib.Core.Bool.{cond}
+use mathlib.Core.Bool.{Bool, cond}
 use mathlib.Core.List.{List, [], _∷_}
 use lib.Dec.{eqb}
+use Rattle.std.specs.Options.{isSome}
 use Rattle.std.specs.declared.option.Option.{Option}
 use Rattle.std.specs.declared.option.Option.the-variants.{Some, None}
 
@@ -23,6 +24,9 @@ later x None = x
 abbrev pub kept : ℕ → List Line → Option (List ℕ)
 kept s [] = None
 kept s (l ∷ ls) = later (cond (eqb s (l .sector)) (Some (l .bytes)) None) (kept s ls)
+
+abbrev pub is-held : ℕ → List Line → Bool
+is-held s ls = isSome (kept s ls)
 
 -- Sector s is given new bytes where it is held, and keeps its turn.
 abbrev pub rewritten : ℕ → List ℕ → List Line → List Line

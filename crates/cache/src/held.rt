@@ -10,8 +10,8 @@ pub const SLOTS: usize = 8;
 
 #[derive(Clone, Copy)]
 pub struct Slot {
-    sector: usize,
-    bytes: [u8; 128],
+    pub sector: usize,
+    pub bytes: [u8; 128],
 }
 
 // The slots in use are `count` from `first` on, round the end.

@@ -1,7 +1,7 @@
 // What is done with the held sectors, told by the list of them.
 ghost use Prim.Native.Nat.{_<_, _≤_};
-ghost use Rattle.cache.specs.Held.{held, line-of};
-ghost use Rattle.cache.specs.Line.{line, kept, rewritten};
+ghost use Rattle.cache.specs.Held.{in-turn, line-of};
+ghost use Rattle.cache.specs.Line.{line, kept, is-held, rewritten};
 ghost use Rattle.std.specs.declared.option.Option.the-variants.{Some, None};
 ghost use lib.ListN.{length, drop};
 ghost use mathlib.Core.List.{[], _∷_, _++_};
@@ -25,20 +25,20 @@ impl Slot {
 
 impl Held {
     pub fn new() -> Self
-        ensures { λ r. ⌜ held r ≡ [] ⌝ }
+        ensures { λ r. ⌜ in-turn r ≡ [] ⌝ }
     {
         Held { slots: [Slot { sector: 0, bytes: [0u8; 128] }; 8], first: 0, count: 0 }
     }
 
     pub fn len(&self) -> usize
-        ensures { λ r. ⌜ r ≡ length (held (now (self .entry))) ⌝ }
+        ensures { λ r. ⌜ r ≡ length (in-turn (now (self .entry))) ⌝ }
     {
         self.count
     }
 
     // The slot of this sector, if it is held.
     pub fn find(&self, sector: usize) -> Option<&Slot>
-        ensures { λ r. ⌜ elim r [ Some s ↦ kept sector (held (now (self .entry))) ≡ Some (now s .bytes) | None ↦ kept sector (held (now (self .entry))) ≡ None ] ⌝ }
+        ensures { λ r. ⌜ elim r [ Some s ↦ kept sector (in-turn (now (self .entry))) ≡ Some (now s .bytes) | None ↦ kept sector (in-turn (now (self .entry))) ≡ None ] ⌝ }
     {
         for turn in (0..self.count).rev() {
             let slot = &self.slots[(self.first + turn) % SLOTS];
@@ -49,9 +49,15 @@ impl Held {
         None
     }
 
+    pub fn has(&self, sector: usize) -> bool
+        ensures { λ r. ⌜ r ≡ is-held sector (in-turn (now (self .entry))) ⌝ }
+    {
+        self.find(sector).is_some()
+    }
+
     // Gives the sector its new bytes where it is held. A slot out of use may change too, unseen.
     pub fn rewrite(&mut self, slot: Slot)
-        ensures { λ _. ⌜ held (now (self .exit)) ≡ rewritten (slot .sector) (slot .bytes) (held (now (self .entry))) ⌝ }
+        ensures { λ _. ⌜ in-turn (now (self .exit)) ≡ rewritten (slot .sector) (slot .bytes) (in-turn (now (self .entry))) ⌝ }
     {
         for i in 0..SLOTS {
             if self.slots[i].sector == slot.sector {
@@ -62,8 +68,8 @@ impl Held {
 
     // Takes a sector in at the end.
     pub fn push(&mut self, slot: Slot)
-        requires { ⌜ length (held (now self)) < 8 ⌝ }
-        ensures { λ _. ⌜ held (now (self .exit)) ≡ held (now (self .entry)) ++ line-of slot ∷ [] ⌝ }
+        requires { ⌜ length (in-turn (now self)) < 8 ⌝ }
+        ensures { λ _. ⌜ in-turn (now (self .exit)) ≡ in-turn (now (self .entry)) ++ line-of slot ∷ [] ⌝ }
     {
         self.slots[(self.first + self.count) % SLOTS] = slot;
         self.count += 1;
@@ -71,16 +77,16 @@ impl Held {
 
     // The slot of the longest held sector.
     pub fn oldest(&self) -> &Slot
-        requires { ⌜ 0 < length (held (now self)) ⌝ }
-        ensures { λ r. ⌜ held (now (self .entry)) ≡ line-of (now r) ∷ drop 1 (held (now (self .entry))) ⌝ }
+        requires { ⌜ 0 < length (in-turn (now self)) ⌝ }
+        ensures { λ r. ⌜ in-turn (now (self .entry)) ≡ line-of (now r) ∷ drop 1 (in-turn (now (self .entry))) ⌝ }
     {
         &self.slots[self.first]
     }
 
     // Forgets the longest held sector.
     pub fn drop_oldest(&mut self)
-        requires { ⌜ 0 < length (held (now self)) ⌝ }
-        ensures { λ _. ⌜ held (now (self .exit)) ≡ drop 1 (held (now (self .entry))) ⌝ }
+        requires { ⌜ 0 < length (in-turn (now self)) ⌝ }
+        ensures { λ _. ⌜ in-turn (now (self .exit)) ≡ drop 1 (in-turn (now (self .entry))) ⌝ }
     {
         self.first = (self.first + 1) % SLOTS;
         self.count -= 1;
@@ -88,7 +94,7 @@ impl Held {
 
     // Forgets every held sector.
     pub fn clear(&mut self)
-        ensures { λ _. ⌜ held (now (self .exit)) ≡ [] ⌝ }
+        ensures { λ _. ⌜ in-turn (now (self .exit)) ≡ [] ⌝ }
     {
         self.count = 0;
     }
