@@ -56,8 +56,8 @@ over-shows d e (l ∷ ls) i h = over-shows (laid d l) (laid e l) ls i (ap (cond 
 pub wrote-shows : (d : Disk) (l : Line) (e : Disk) → Wrote d (l .sector) (l .bytes) e → (i : ℕ) → e .shows i ≡ laid d l .shows i
 wrote-shows d l e w i =
     elim (cases-eq i (l .sector)) [
-      inl same ↦ ap (e .shows) same ∙ w .shown ∙ sym (ap (λ q. cond q (holds (l .bytes)) (d .shows i)) (eq-eqb i (l .sector) same))
-    | inr other ↦ w .kept i other ∙ sym (ap (λ q. cond q (holds (l .bytes)) (d .shows i)) (ne-eqb i (l .sector) other))
+      | inl same ↦ ap (e .shows) same ∙ w .shown ∙ sym (ap (λ q. cond q (holds (l .bytes)) (d .shows i)) (eq-eqb i (l .sector) same))
+      | inr other ↦ w .kept i other ∙ sym (ap (λ q. cond q (holds (l .bytes)) (d .shows i)) (ne-eqb i (l .sector) other))
     ]
 
 -- what a write below may leave may stand with the line laid over
@@ -68,12 +68,12 @@ may-laid d l x m =
     (elim m [ inl st ↦ inr (inr st) | inr (a, inl h) ↦ inl h | inr (a, inr s) ↦ inr (inl s) ])
 
 new-laid : (d : Disk) (l : Line) (e : Disk)
-  → ((i : ℕ) → i ≢ l .sector → Nothing-new d e i) → ((x : Shown) → Stands e (l .sector) x → May-write d (l .sector) (l .bytes) x)
-  → (i : ℕ) → Nothing-new (laid d l) e i
+    → ((i : ℕ) → i ≢ l .sector → Nothing-new d e i) → ((x : Shown) → Stands e (l .sector) x → May-write d (l .sector) (l .bytes) x)
+    → (i : ℕ) → Nothing-new (laid d l) e i
 new-laid d l e elsewhere there i x st =
     elim (cases-eq i (l .sector)) [
-      inl same ↦ subst (λ j. Stands (laid d l) j x) (sym same) (may-laid d l x (there x (subst (λ j. Stands e j x) same st)))
-    | inr other ↦ laid-under d l i x (elsewhere i other x st)
+      | inl same ↦ subst (λ j. Stands (laid d l) j x) (sym same) (may-laid d l x (there x (subst (λ j. Stands e j x) same st)))
+      | inr other ↦ laid-under d l i x (elsewhere i other x st)
     ]
 
 pub wrote-old : (d : Disk) (l : Line) (e : Disk) → Wrote d (l .sector) (l .bytes) e → (i : ℕ) → Nothing-new (laid d l) e i
@@ -150,15 +150,15 @@ renew-other s b l other = ap (λ q. cond q (line s b) l) (ne-eqb s (l .sector) o
 renew-shows-else : (d e : Disk) (l : Line) (s : ℕ) (b : List ℕ) (i : ℕ) → i ≢ s → e .shows i ≡ d .shows i → laid e (renew s b l) .shows i ≡ laid d l .shows i
 renew-shows-else d e l s b i ne h =
     elim (cases-eq s (l .sector)) [
-      inl same ↦ ap (λ (k : Line). laid e k .shows i) (renew-same s b l same) ∙ unlaid-shows e (line s b) i ne ∙ h ∙ sym (unlaid-shows d l i (λ q. ne (q ∙ sym same)))
-    | inr other ↦ ap (λ (k : Line). laid e k .shows i) (renew-other s b l other) ∙ over-shows d e (l ∷ []) i h
+      | inl same ↦ ap (λ (k : Line). laid e k .shows i) (renew-same s b l same) ∙ unlaid-shows e (line s b) i ne ∙ h ∙ sym (unlaid-shows d l i (λ q. ne (q ∙ sym same)))
+      | inr other ↦ ap (λ (k : Line). laid e k .shows i) (renew-other s b l other) ∙ over-shows d e (l ∷ []) i h
     ]
 
 renew-old-else : (d e : Disk) (l : Line) (s : ℕ) (b : List ℕ) (i : ℕ) → i ≢ s → Nothing-new d e i → Nothing-new (laid d l) (laid e (renew s b l)) i
 renew-old-else d e l s b i ne h x st =
     elim (cases-eq s (l .sector)) [
-      inl same ↦ laid-under d l i x (h x (unlaid e (line s b) i ne x (subst (λ (k : Line). Stands (laid e k) i x) (renew-same s b l same) st)))
-    | inr other ↦ laid-old d e l i h x (subst (λ (k : Line). Stands (laid e k) i x) (renew-other s b l other) st)
+      | inl same ↦ laid-under d l i x (h x (unlaid e (line s b) i ne x (subst (λ (k : Line). Stands (laid e k) i x) (renew-same s b l same) st)))
+      | inr other ↦ laid-old d e l i h x (subst (λ (k : Line). Stands (laid e k) i x) (renew-other s b l other) st)
     ]
 
 -- in sector s of e may stand what may in d, the bytes b, or spoiled
@@ -168,19 +168,19 @@ Written-at d s b e = (x : Shown) → Stands e s x → Stands d s x ⊎ ((x ≡ h
 renew-there : (d e : Disk) (l : Line) (s : ℕ) (b : List ℕ) → Written-at d s b e → Written-at (laid d l) s b (laid e (renew s b l))
 renew-there d e l s b h x st =
     let up : Stands d s x ⊎ ((x ≡ holds b) ⊎ (x ≡ spoiled)) → Stands (laid d l) s x ⊎ ((x ≡ holds b) ⊎ (x ≡ spoiled)) =
-      λ m. elim m [ inl old ↦ inl (laid-under d l s x old) | inr new ↦ inr new ] in
+    λ m. elim m [ inl old ↦ inl (laid-under d l s x old) | inr new ↦ inr new ] in
     elim (cases-eq s (l .sector)) [
-      inl same ↦
-        elim (laid-there e (line s b) x (subst (λ (k : Line). Stands (laid e k) s x) (renew-same s b l same) st))
-        [ inl old ↦ up (h x old) | inr new ↦ inr new ]
-    | inr other ↦ up (h x (unlaid e l s other x (subst (λ (k : Line). Stands (laid e k) s x) (renew-other s b l other) st)))
+      | inl same ↦
+          elim (laid-there e (line s b) x (subst (λ (k : Line). Stands (laid e k) s x) (renew-same s b l same) st))
+          [ inl old ↦ up (h x old) | inr new ↦ inr new ]
+      | inr other ↦ up (h x (unlaid e l s other x (subst (λ (k : Line). Stands (laid e k) s x) (renew-other s b l other) st)))
     ]
 
 renew-shows : (e : Disk) (l : Line) (s : ℕ) (b : List ℕ) → e .shows s ≡ holds b → laid e (renew s b l) .shows s ≡ holds b
 renew-shows e l s b h =
     elim (cases-eq s (l .sector)) [
-      inl same ↦ ap (λ (k : Line). laid e k .shows s) (renew-same s b l same) ∙ laid-shows e (line s b)
-    | inr other ↦ ap (λ (k : Line). laid e k .shows s) (renew-other s b l other) ∙ unlaid-shows e l s other ∙ h
+      | inl same ↦ ap (λ (k : Line). laid e k .shows s) (renew-same s b l same) ∙ laid-shows e (line s b)
+      | inr other ↦ ap (λ (k : Line). laid e k .shows s) (renew-other s b l other) ∙ unlaid-shows e l s other ∙ h
     ]
 
 pub rewritten-shows-else : (d e : Disk) (ls : List Line) (s : ℕ) (b : List ℕ) (i : ℕ) → i ≢ s → e .shows i ≡ d .shows i → over e (rewritten s b ls) .shows i ≡ over d ls .shows i
@@ -207,10 +207,10 @@ pub rewritten-shows : (e : Disk) (ls : List Line) (s : ℕ) (b : List ℕ) → i
 rewritten-shows e [] s b h = absurd (both-ways false refl h)
 rewritten-shows e (l ∷ ls) s b h =
     elim (cases-eq s (l .sector)) [
-      inl same ↦ rewritten-still (laid e (renew s b l)) ls s b (ap (λ (k : Line). laid e k .shows s) (renew-same s b l same) ∙ laid-shows e (line s b))
-    | inr other ↦
-        rewritten-shows (laid e (renew s b l)) ls s b
-        (sym (later-none (kept s ls)) ∙ ap (λ q. isSome (later (cond q (Some (l .bytes)) None) (kept s ls))) (sym (ne-eqb s (l .sector) other)) ∙ h)
+      | inl same ↦ rewritten-still (laid e (renew s b l)) ls s b (ap (λ (k : Line). laid e k .shows s) (renew-same s b l same) ∙ laid-shows e (line s b))
+      | inr other ↦
+          rewritten-shows (laid e (renew s b l)) ls s b
+          (sym (later-none (kept s ls)) ∙ ap (λ q. isSome (later (cond q (Some (l .bytes)) None) (kept s ls))) (sym (ne-eqb s (l .sector) other)) ∙ h)
     ]
 
 -- the lines in front lie under the others

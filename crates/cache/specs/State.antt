@@ -23,12 +23,12 @@ state disk c = record { below = disk (c .below); held = in-turn (c .held); on = 
 -- A disk with a held sector laid over it: the sector shows the held bytes, and spoiled or what may
 -- stand below may stand there too, since the bytes are yet to be written.
 abbrev pub laid : Disk → Line → Disk
-laid d l = record
-  { plate = d .plate
-  ; on = d .on
-  ; shows = λ i. cond (eqb i (l .sector)) (holds (l .bytes)) (d .shows i)
-  ; others = λ i. cond (eqb i (l .sector)) (spoiled ∷ d .shows i ∷ d .others i) (d .others i)
-  }
+laid d l = record {
+  plate = d .plate;
+  on = d .on;
+  shows = λ i. cond (eqb i (l .sector)) (holds (l .bytes)) (d .shows i);
+  others = λ i. cond (eqb i (l .sector)) (spoiled ∷ d .shows i ∷ d .others i) (d .others i);
+}
 
 -- A disk with all the held sectors laid over it, the longest held first.
 abbrev pub over : Disk → List Line → Disk
@@ -41,12 +41,12 @@ plate-over p = record { sectors = p .sectors; origin = 0; ends = p .ends; blames
 
 -- The disk that a cache shows.
 abbrev pub disk-of : State → Disk
-disk-of c = record
-  { plate = plate-over (c .below .plate)
-  ; on = c .on
-  ; shows = over (c .below) (c .held) .shows
-  ; others = over (c .below) (c .held) .others
-  }
+disk-of c = record {
+  plate = plate-over (c .below .plate);
+  on = c .on;
+  shows = over (c .below) (c .held) .shows;
+  others = over (c .below) (c .held) .others;
+}
 
 -- Every held sector is one of the disk's.
 abbrev pub Fits : Disk → List Line → Type 0

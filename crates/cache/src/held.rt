@@ -5,19 +5,22 @@ ghost use mathlib.Core.Path.{_≡_};
 
 mod ring;
 
+use device::SECTOR;
+
 // How many sectors a cache holds at most.
 pub const SLOTS: usize = 8;
 
+// A sector's number, and the bytes that were written to it.
 #[derive(Clone, Copy)]
 pub struct Slot {
     pub sector: usize,
-    pub bytes: [u8; 128],
+    pub bytes: [u8; SECTOR],
 }
 
 // The slots in use are `count` from `first` on, round the end.
 #[derive(Drop)]
 pub struct Held {
-    slots: [Slot; 8],
+    slots: [Slot; SLOTS],
     first: usize,
     count: usize,
     ghost eight: { length slots ≡ 8 },

@@ -16,6 +16,9 @@ use device::SECTOR;
 use held::Held;
 use held::SLOTS;
 
+// The origin that a layer tells where it refuses a call itself, or is off.
+const ORIGIN: u8 = 0;
+
 // The device below, the sectors that are held back from it, and whether the cache is on.
 pub struct Cache<D> {
     below: D,
@@ -29,15 +32,24 @@ impl<D: Device> Cache<D> {
         ensures below { λ r. ⌜ r .below ≡ below ⌝ }
         ensures held { λ r. ⌜ in-turn (r .held) ≡ [] ⌝ }
         ensures on { λ r. ⌜ r .on ≡ true ⌝ }
+        ensures sound { λ r. ⌜ Sound (state (D·Device .disk) r) ⌝ }
     {
-        Cache { below, held: Held::new(), on: true }
+        Cache {
+            below,
+            held: Held::new(),
+            on: true,
+        }
     }
 
     // Gives the device below back; what is held is lost.
     pub fn into_below(self) -> D
         ensures { λ r. ⌜ r ≡ self .below ⌝ }
     {
-        let Cache { below, held: _, on: _ } = self;
+        let Cache {
+            below,
+            held: _,
+            on: _,
+        } = self;
         below
     }
 }
@@ -58,10 +70,10 @@ pub impl<D: Device> Device for Cache<D> as CacheDevice {
         ensures sound { λ _. ⌜ (Sound (state (D·Device .disk) (now (self .entry))) → Sound (state (D·Device .disk) (now (self .exit)))) ⌝ }
     {
         if !self.on {
-            return Err(DeviceFault::Power(0));
+            return Err(DeviceFault::Power(ORIGIN));
         }
-        if sector >= self.below.sectors() || buffer.len() != SECTOR {
-            return Err(DeviceFault::Misaddressed(sector, 0));
+        if sector >= self.sectors() || buffer.len() != SECTOR {
+            return Err(DeviceFault::Misaddressed(sector, ORIGIN));
         }
         if self.read_held(sector, buffer) {
             return Ok(());
@@ -75,10 +87,10 @@ pub impl<D: Device> Device for Cache<D> as CacheDevice {
         ensures sound { λ _. ⌜ (Sound (state (D·Device .disk) (now (self .entry))) → Sound (state (D·Device .disk) (now (self .exit)))) ⌝ }
     {
         if !self.on {
-            return Err(DeviceFault::Power(0));
+            return Err(DeviceFault::Power(ORIGIN));
         }
-        if sector >= self.below.sectors() || bytes.len() != SECTOR {
-            return Err(DeviceFault::Misaddressed(sector, 0));
+        if sector >= self.sectors() || bytes.len() != SECTOR {
+            return Err(DeviceFault::Misaddressed(sector, ORIGIN));
         }
         if self.held.has(sector) {
             self.rewrite(sector, bytes);
@@ -97,7 +109,7 @@ pub impl<D: Device> Device for Cache<D> as CacheDevice {
         ensures sound { λ _. ⌜ (Sound (state (D·Device .disk) (now (self .entry))) → Sound (state (D·Device .disk) (now (self .exit)))) ⌝ }
     {
         if !self.on {
-            return Err(DeviceFault::Power(0));
+            return Err(DeviceFault::Power(ORIGIN));
         }
         self.empty()
     }

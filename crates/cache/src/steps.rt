@@ -10,7 +10,6 @@ ghost use lib.ListN.{length};
 ghost use mathlib.Core.Bool.{Bool, true, false, not};
 ghost use mathlib.Core.List.{List, []};
 ghost use mathlib.Core.Path.{_≡_};
-
 use crate::Cache;
 use crate::held::Slot;
 use device::Device;
@@ -130,7 +129,7 @@ impl<D: Device> Cache<D> {
     }
 
     // Sends all held sectors down, the longest held first.
-    fn send_all(&mut self) -> Result<(), DeviceFault>
+    pub(crate) fn send_all(&mut self) -> Result<(), DeviceFault>
         ensures { λ r. ⌜ Sends-all (state (D·Device .disk) (now (self .entry))) r (state (D·Device .disk) (now (self .exit))) ⌝ }
     {
         while self.held.len() > 0 {

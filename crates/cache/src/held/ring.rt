@@ -6,10 +6,10 @@ ghost use Rattle.std.specs.declared.option.Option.the-variants.{Some, None};
 ghost use lib.ListN.{length, drop};
 ghost use mathlib.Core.List.{[], _∷_, _++_};
 ghost use mathlib.Core.Path.{_≡_};
-
 use super::Held;
-use super::Slot;
 use super::SLOTS;
+use super::Slot;
+use device::SECTOR;
 
 impl Slot {
     // The sector with a copy of its bytes.
@@ -17,9 +17,12 @@ impl Slot {
         requires { ⌜ length (now bytes) ≡ 128 ⌝ }
         ensures { λ r. ⌜ line-of r ≡ line sector (now (bytes .entry)) ⌝ }
     {
-        let mut copy = [0u8; 128];
+        let mut copy = [0u8; SECTOR];
         copy.copy_from_slice(bytes);
-        Slot { sector, bytes: copy }
+        Slot {
+            sector,
+            bytes: copy,
+        }
     }
 }
 
@@ -27,7 +30,14 @@ impl Held {
     pub fn new() -> Self
         ensures { λ r. ⌜ in-turn r ≡ [] ⌝ }
     {
-        Held { slots: [Slot { sector: 0, bytes: [0u8; 128] }; 8], first: 0, count: 0 }
+        Held {
+            slots: [Slot {
+                sector: 0,
+                bytes: [0u8; SECTOR],
+            }; SLOTS],
+            first: 0,
+            count: 0,
+        }
     }
 
     pub fn len(&self) -> usize

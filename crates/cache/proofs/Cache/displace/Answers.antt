@@ -21,11 +21,11 @@ returns-in-Break-send-one g c =
     let n = c .in-Break-send-one .ensures tt in
     let p = err-from-errBy (c .from-residual .result) (c .from-residual .ensures .1) in
     rw (p .1, p .2)
-    (record
-      { meaning = not-displaced-meaning s (c .args .sector) b f t (c .pre .0) n
-      ; exact = not-displaced-exact s (c .args .sector) b f t (c .pre .0) (c .pre .1) (c .pre .2) n
-      ; sound = not-displaced-sound s f t n
-      })
+    (record {
+      meaning = not-displaced-meaning s (c .args .sector) b f t (c .pre .0) n;
+      exact = not-displaced-exact s (c .args .sector) b f t (c .pre .0) (c .pre .1) (c .pre .2) n;
+      sound = not-displaced-sound s f t n;
+    })
 
 pub push-requires : need.push-requires
 push-requires g c κs =
@@ -43,8 +43,8 @@ returns g c =
     let one = c .in-Continue-send-one .ensures tt in
     let h = in-turn (c .push .last .self) in
     let e : h ≡ t .held ++ line (c .args .sector) b ∷ [] = c .push .ensures ∙ ap (λ (l : Line). t .held ++ l ∷ []) (c .new .ensures) in
-    record
-      { meaning = displaced-meaning s (c .args .sector) b t h (c .pre .0) one e
-      ; exact = displaced-exact s (c .args .sector) b t h (c .pre .0) (c .pre .1) (c .pre .2) one e
-      ; sound = displaced-sound s (c .args .sector) b t h (c .pre .0) one e
-      }
+    record {
+      meaning = displaced-meaning s (c .args .sector) b t h (c .pre .0) one e;
+      exact = displaced-exact s (c .args .sector) b t h (c .pre .0) (c .pre .1) (c .pre .2) one e;
+      sound = displaced-sound s (c .args .sector) b t h (c .pre .0) one e;
+    }

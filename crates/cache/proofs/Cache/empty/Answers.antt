@@ -35,8 +35,8 @@ returns g c =
     let e = disk (c .barrier .last .self) in
     let all = c .in-Continue-send-all .ensures tt in
     let settled = c .in-Continue-barrier .ensures tt in
-    record
-      { meaning = emptied-meaning s t e (c .pre) all settled
-      ; exact = emptied-exact s t e (c .pre) all settled
-      ; sound = λ _. emptied-sound t e (all .turns)
-      }
+    record {
+      meaning = emptied-meaning s t e (c .pre) all settled;
+      exact = emptied-exact s t e (c .pre) all settled;
+      sound = λ _. emptied-sound t e (all .turns);
+    }

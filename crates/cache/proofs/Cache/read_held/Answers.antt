@@ -14,9 +14,9 @@ returns-in-Some g c =
     let s = state (g .D·Device .disk) self in
     let after = c .copy-from-slice .last .self in
     let k : kept (c .args .sector) (in-turn (self .held)) ≡ Some after = c .in-Some .ensures tt ∙ sym (ap (λ b. Some b) (c .copy-from-slice .ensures .after)) in
-    record
-      { meaning = λ _. read-held-meaning s (c .args .sector) (c .args .buffer .now) after (c .pre) k
-      ; exact = λ _. record { asked = c .pre; found = k; same = refl }
-      ; absent = λ e. absurd (both-ways true e refl)
-      ; untouched = λ e. absurd (both-ways true e refl)
-      }
+    record {
+      meaning = λ _. read-held-meaning s (c .args .sector) (c .args .buffer .now) after (c .pre) k;
+      exact = λ _. record { asked = c .pre; found = k; same = refl };
+      absent = λ e. absurd (both-ways true e refl);
+      untouched = λ e. absurd (both-ways true e refl);
+    }

@@ -10,8 +10,8 @@ returns g c =
     let e = disk (c .restart-answer .last .self) in
     let h = in-turn (self .held) in
     let r = c .restart-answer .result in
-    record
-      { meaning = λ held on. restart-meaning (made (disk (self .below)) held on) r e h (c .is-ok-self .result) (c .pre) (c .is-ok-self .ensures .value) (c .restart-answer .ensures)
-      ; exact = restart-exact (state disk self) r e h (c .is-ok-self .result) (c .pre) (c .is-ok-self .ensures .value) (c .restart-answer .ensures)
-      ; sound = sound-none e h (c .pre)
-      }
+    record {
+      meaning = λ held on. restart-meaning (made (disk (self .below)) held on) r e h (c .is-ok-self .result) (c .pre) (c .is-ok-self .ensures .value) (c .restart-answer .ensures);
+      exact = restart-exact (state disk self) r e h (c .is-ok-self .result) (c .pre) (c .is-ok-self .ensures .value) (c .restart-answer .ensures);
+      sound = sound-none e h (c .pre);
+    }

@@ -12,8 +12,8 @@ pub loop-self-again : need.loop-self-again
 loop-self-again g c =
     let disk = g .D·Device .disk in
     λ r t more.
-      c .loop-self .inv r t
-      (all-more (state disk (c .loop-self .self)) (state disk (c .send-one .last .self)) (c .in-Continue-send-one .ensures tt) r t more)
+    c .loop-self .inv r t
+    (all-more (state disk (c .loop-self .self)) (state disk (c .send-one .last .self)) (c .in-Continue-send-one .ensures tt) r t more)
 
 pub returns-in-Break-send-one : need.returns-in-Break-send-one
 returns-in-Break-send-one g c =

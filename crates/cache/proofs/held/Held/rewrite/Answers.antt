@@ -16,14 +16,16 @@ loop-i-again c =
     let lx : c .loop-i .i < length xs = omega (arith, c .args .self .now .eight) in
     let ly : c .loop-i .i < length ys = omega (arith, c .loop-i .self .eight) in
     elim (c .if-self-i .came) [
-      then-self-i w ↦
-        ( ap (λ (h : Held). h .slots) (w .self-is) ∙ renew-this x xs ys (c .loop-i .i) _ lx ly (c .loop-i .inv .0) (w .if-self-i .taken)
-        , ap (λ (h : Held). h .first) (w .self-is) ∙ c .loop-i .inv .1
-        , ap (λ (h : Held). h .count) (w .self-is) ∙ c .loop-i .inv .2 )
-    | else-self-i w ↦
-        ( ap (λ (h : Held). h .slots) (w .self-is) ∙ renew-other x xs ys (c .loop-i .i) _ lx ly (c .loop-i .inv .0) (w .if-self-i .left)
-        , ap (λ (h : Held). h .first) (w .self-is) ∙ c .loop-i .inv .1
-        , ap (λ (h : Held). h .count) (w .self-is) ∙ c .loop-i .inv .2 )
+      | then-self-i w ↦ (
+        ap (λ (h : Held). h .slots) (w .self-is) ∙ renew-this x xs ys (c .loop-i .i) _ lx ly (c .loop-i .inv .0) (w .if-self-i .taken),
+        ap (λ (h : Held). h .first) (w .self-is) ∙ c .loop-i .inv .1,
+        ap (λ (h : Held). h .count) (w .self-is) ∙ c .loop-i .inv .2,
+      )
+      | else-self-i w ↦ (
+        ap (λ (h : Held). h .slots) (w .self-is) ∙ renew-other x xs ys (c .loop-i .i) _ lx ly (c .loop-i .inv .0) (w .if-self-i .left),
+        ap (λ (h : Held). h .first) (w .self-is) ∙ c .loop-i .inv .1,
+        ap (λ (h : Held). h .count) (w .self-is) ∙ c .loop-i .inv .2,
+      )
     ]
 
 pub returns : need.returns
