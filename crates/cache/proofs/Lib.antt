@@ -1,0 +1,6 @@
+mod Rings
+mod Lines
+mod Disks
+mod Overlay
+mod Calls
+mod Sending
