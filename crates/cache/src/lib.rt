@@ -20,6 +20,7 @@ use held::SLOTS;
 const ORIGIN: u8 = 0;
 
 // The device below, the sectors that are held back from it, and whether the cache is on.
+#[derive(Drop)]
 pub struct Cache<D> {
     below: D,
     held: Held,
@@ -39,18 +40,6 @@ impl<D: Device> Cache<D> {
             held: Held::new(),
             on: true,
         }
-    }
-
-    // Gives the device below back; what is held is lost.
-    pub fn into_below(self) -> D
-        ensures { λ r. ⌜ r ≡ self .below ⌝ }
-    {
-        let Cache {
-            below,
-            held: _,
-            on: _,
-        } = self;
-        below
     }
 }
 

@@ -3,6 +3,9 @@ use battery::Battery;
 use battery::BatteryDevice;
 use bench::Bench;
 use bench::BenchDevice;
+use cache::Cache;
+use cache::CacheDevice;
+use device::Device;
 use device::DeviceFault;
 use mirror::Mirror;
 use mirror::MirrorDevice;
@@ -35,9 +38,11 @@ fn refuse(rt: &LibcRuntime, fault: DeviceFault) -> Result<(), AnyError> {
     Ok(())
 }
 
-fn use_bench(
+// A pile over one card.
+fn use_card(
     rt: &LibcRuntime,
     input: &mut BufReader<Stdin>,
+    cached: bool,
     card: &mut Card,
 ) -> Result<(), AnyError> {
     match Bench::new(
@@ -46,14 +51,40 @@ fn use_bench(
         card.plan.as_slice(),
         card.origin,
     ) {
+        Ok(device) if cached => serve(rt, input, Cache::new(device)),
         Ok(device) => serve(rt, input, device),
         Err(fault) => refuse(rt, fault),
     }
 }
 
-fn use_mirror(
+// How a mirror of the two cards is made.
+#[derive(Clone, Copy)]
+enum Pair {
+    Plain,
+    CacheOver,
+    CachesUnder,
+}
+
+// Generic, since a mirror of caches over lent bytes gets its proof only at any two devices.
+fn serve_pair<L: Device + Drop, R: Device + Drop>(
     rt: &LibcRuntime,
     input: &mut BufReader<Stdin>,
+    pair: Pair,
+    left: L,
+    right: R,
+) -> Result<(), AnyError> {
+    match pair {
+        Pair::Plain => serve(rt, input, Mirror::new(left, right)),
+        Pair::CacheOver => serve(rt, input, Cache::new(Mirror::new(left, right))),
+        Pair::CachesUnder => serve(rt, input, Mirror::new(Cache::new(left), Cache::new(right))),
+    }
+}
+
+// A pile over both cards. Where both are refused, the left one's refusal answers.
+fn use_cards(
+    rt: &LibcRuntime,
+    input: &mut BufReader<Stdin>,
+    pair: Pair,
     left: &mut Card,
     right: &mut Card,
 ) -> Result<(), AnyError> {
@@ -70,7 +101,7 @@ fn use_mirror(
         right.origin,
     );
     match (l, r) {
-        (Ok(l), Ok(r)) => serve(rt, input, Mirror::new(l, r)),
+        (Ok(l), Ok(r)) => serve_pair(rt, input, pair, l, r),
         (Err(fault), _) => refuse(rt, fault),
         (_, Err(fault)) => refuse(rt, fault),
     }
@@ -85,10 +116,13 @@ fn put_in_use(
 ) -> Result<(), AnyError> {
     match shape {
         Shape::Battery(origin) => serve(rt, input, Battery::new(origin)),
-        Shape::Bench(Side::Left) => use_bench(rt, input, left),
-        Shape::Bench(Side::Right) => use_bench(rt, input, right),
-        Shape::Mirror => use_mirror(rt, input, left, right),
-        _ => Ok(()),
+        Shape::Bench(Side::Left) => use_card(rt, input, false, left),
+        Shape::Bench(Side::Right) => use_card(rt, input, false, right),
+        Shape::Cache(Side::Left) => use_card(rt, input, true, left),
+        Shape::Cache(Side::Right) => use_card(rt, input, true, right),
+        Shape::Mirror => use_cards(rt, input, Pair::Plain, left, right),
+        Shape::CacheMirror => use_cards(rt, input, Pair::CacheOver, left, right),
+        Shape::MirrorCache => use_cards(rt, input, Pair::CachesUnder, left, right),
     }
 }
 
