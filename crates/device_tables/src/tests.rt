@@ -4,6 +4,8 @@ use battery::Battery;
 use battery::BatteryDevice;
 use bench::Bench;
 use bench::BenchDevice;
+use cache::Cache;
+use cache::CacheDevice;
 use mirror::Mirror;
 use mirror::MirrorDevice;
 use std::test::*;
@@ -147,6 +149,47 @@ fn mirror_works_right_then_left() -> Result<(), Fail> {
             (Call::Write(0, 4), Reply::No(DeviceFault::Power(2))),
             (Call::Restart, Reply::Done),
             (Call::Read(0), Reply::No(DeviceFault::Spoiled(0, 2))),
+        ],
+    )
+}
+
+// A cache over a card of ten sectors with origin 3, filled with eight of them first.
+fn cache_holds<'a>(
+    bytes: &'a mut [u8],
+    flags: &'a mut [u8],
+    plan: &'a [u8],
+    table: &[(Call, Reply)],
+) -> Result<(), Fail> {
+    let below = Bench::new(bytes, flags, plan, 3)?;
+    let mut device = Cache::new(below);
+    for sector in 0..8usize {
+        check_eq(play(&mut device, Call::Write(sector, 1)), Reply::Done)?;
+    }
+    holds(&mut device, table)
+}
+
+#[test]
+fn cache_sends_down_in_turn() -> Result<(), Fail> {
+    let (mut bytes, mut flags) = ([0u8; 1280], [0u8; 10]);
+    cache_holds(
+        &mut bytes,
+        &mut flags,
+        &[1],
+        &[
+            (Call::Write(0, 2), Reply::Done),
+            (Call::Read(0), Reply::Full(2)),
+            (Call::Write(8, 1), Reply::No(DeviceFault::Power(3))),
+            (Call::Read(0), Reply::No(DeviceFault::Power(0))),
+            (Call::Restart, Reply::Done),
+            (Call::Read(0), Reply::Full(0)),
+            (Call::Write(0, 4), Reply::Done),
+            (Call::Barrier, Reply::Done),
+            (Call::Restart, Reply::Done),
+            (Call::Read(0), Reply::Full(4)),
+            (
+                Call::Write(10, 1),
+                Reply::No(DeviceFault::Misaddressed(10, 0)),
+            ),
         ],
     )
 }
