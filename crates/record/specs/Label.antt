@@ -6,6 +6,9 @@ use lib.ListN.{getD}
 use Rattle.record.specs.declared.label.Label.{Label}
 use Rattle.record.specs.Fields.{field}
 use Rattle.record.specs.Entry.{Entry}
+use Rattle.record.specs.Good.{Fits, Good}
+use Rattle.std.specs.declared.option.Option.{Option}
+use Rattle.std.specs.declared.option.Option.the-variants.{Some, None}
 
 -- This label stands in the sector.
 pub record Says (sector : List ℕ) (l : Label) : Type 0 where
@@ -21,3 +24,14 @@ pub record Says (sector : List ℕ) (l : Label) : Type 0 where
 abbrev pub spelled : Label → List ℕ → Entry
 spelled l bytes =
     record { kind = l .kind; serial = l .head .serial; low = l .head .low; ordinal = l .head .ordinal; page = l .page; offset = l .offset; bytes = bytes }
+
+-- This is the label of a good sector.
+pub record Passed (places place : ℕ) (sector : List ℕ) (l : Label) : Type 0 where
+  pub good : Good places place sector
+  pub says : Says sector l
+  pub fits : Fits (l .kind) (l .page) (l .offset) (l .length)
+
+-- A label is answered just where the sector is good.
+abbrev pub Judged : ℕ → ℕ → List ℕ → Option Label → Type 0
+Judged places place sector (Some l) = Passed places place sector l
+Judged places place sector None = Good places place sector → ⊥

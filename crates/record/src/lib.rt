@@ -1,8 +1,8 @@
 // A log's record in a sector of a device: reading a sector as a record, and laying a record out.
 ghost use Prim.Native.Nat.{_≤_, _<_, _+_};
-ghost use Rattle.record.specs.Entry.{entry, laid-out};
+ghost use Rattle.record.specs.Entry.{entry, reads-as};
 ghost use Rattle.record.specs.Good.{Fits, Answered, Says-so};
-ghost use Rattle.record.specs.Label.{spelled};
+ghost use Rattle.record.specs.Label.{Says, Judged, spelled};
 ghost use lib.ListN.{length};
 ghost use mathlib.Core.Path.{_≡_};
 
@@ -51,6 +51,14 @@ pub fn read<'a>(sector: &'a [u8], place: usize, places: usize) -> Option<Record<
     ensures good { λ r. ⌜ Answered places place (now (sector .entry)) r ⌝ }
     ensures says { λ r. ⌜ Says-so (now (sector .entry)) r ⌝ }
 {
+    let label = good_label(sector, place, places)?;
+    Some(content(label, sector))
+}
+
+// The label of a good sector.
+fn good_label(sector: &[u8], place: usize, places: usize) -> Option<Label>
+    ensures { λ r. ⌜ Judged places place (now (sector .entry)) r ⌝ }
+{
     if sector.len() != SECTOR || sector[31] != 0 {
         return None;
     }
@@ -61,7 +69,15 @@ pub fn read<'a>(sector: &'a [u8], place: usize, places: usize) -> Option<Record<
     if !fits(label.kind, label.page, label.offset, label.length) {
         return None;
     }
-    Some(named(label, &sector[32..32 + label.length]))
+    Some(label)
+}
+
+// The record that a sector with this label holds.
+fn content<'a>(label: Label, sector: &'a [u8]) -> Record<'a>
+    requires { ⌜ length (now sector) ≡ 128 ⌝ ∗ ⌜ Says (now sector) label ⌝ ∗ ⌜ Fits (label .kind) (label .page) (label .offset) (label .length) ⌝ }
+    ensures { λ r. ⌜ entry r ≡ reads-as (now (sector .entry)) ⌝ }
+{
+    named(label, &sector[32..32 + label.length])
 }
 
 // The record with this label and these bytes.
