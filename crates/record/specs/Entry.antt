@@ -30,12 +30,12 @@ entry (Mark head) =
 -- The 32 bytes before the data, of which there are so many.
 abbrev pub label : Entry → ℕ → List ℕ
 label e size =
-    digits 8 (e .serial) ++ (digits 8 (e .low) ++ (digits 8 (e .ordinal)
-    ++ (digits 2 (e .page) ++ (digits 2 (e .offset) ++ (digits 2 size ++ (e .kind ∷ 0 ∷ []))))))
+    digits 8 (e .serial) ++ digits 8 (e .low) ++ digits 8 (e .ordinal)
+    ++ digits 2 (e .page) ++ digits 2 (e .offset) ++ digits 2 size ++ (e .kind ∷ 0 ∷ [])
 
 -- The sector of a record: its label, its bytes, and zeros after them.
 abbrev pub laid-out : Entry → List ℕ
-laid-out e = label e (length (e .bytes)) ++ (e .bytes ++ replicate (96 - length (e .bytes)) 0)
+laid-out e = label e (length (e .bytes)) ++ e .bytes ++ replicate (96 - length (e .bytes)) 0
 
 -- What a sector says, where it is good.
 abbrev pub reads-as : List ℕ → Entry

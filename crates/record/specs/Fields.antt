@@ -9,7 +9,7 @@ value [] = 0
 value (b ∷ bs) = b + 256 * value bs
 
 -- The lowest n bytes of a number.
-abbrev pub digits : ℕ → ℕ → List ℕ
+unfoldable pub digits : ℕ → ℕ → List ℕ
 digits zero x = []
 digits (suc n) x = x % 256 ∷ digits n (x / 256)
 

@@ -8,6 +8,7 @@ ghost use mathlib.Core.Path.{_≡_};
 
 mod fields;
 mod label;
+mod layout;
 
 use label::Label;
 use label::fits;
