@@ -33,6 +33,11 @@ pub record Good (places place : ℕ) (sector : List ℕ) : Type 0 where
   pub placed : Placed places place (reads-as sector .serial) (reads-as sector .low) (reads-as sector .ordinal)
   pub fits : Fits (reads-as sector .kind) (reads-as sector .page) (reads-as sector .offset) (field 28 2 sector)
 
+-- A record that keeps the rule of its kind, and a buffer that is a sector.
+pub record Writable (e : Entry) (buffer : List ℕ) : Type 0 where
+  pub fits : Fits (e .kind) (e .page) (e .offset) (length (e .bytes))
+  pub long : length buffer ≡ 128
+
 -- A record that has a good sector at this place.
 pub record Sound (places place : ℕ) (e : Entry) : Type 0 where
   pub placed : Placed places place (e .serial) (e .low) (e .ordinal)

@@ -1,9 +1,11 @@
 // A log's record in a sector of a device: reading a sector as a record, and laying a record out.
 ghost use Prim.Native.Nat.{_≤_, _<_, _+_};
-ghost use Rattle.record.specs.Entry.{entry, reads-as};
-ghost use Rattle.record.specs.Good.{Fits, Answered, Says-so};
+ghost use Rattle.record.specs.Entry.{entry, reads-as, laid-out};
+ghost use Rattle.record.specs.Good.{Fits, Writable, Answered, Says-so};
 ghost use Rattle.record.specs.Label.{Says, Judged, spelled};
+ghost use lib.Dec.{T};
 ghost use lib.ListN.{length};
+ghost use mathlib.Core.Bool.{false};
 ghost use mathlib.Core.Path.{_≡_};
 
 mod fields;
@@ -14,9 +16,12 @@ use label::Label;
 use label::fits;
 use label::label_in;
 use label::placed;
+use layout::lay_out;
 
 // The number of bytes in a sector.
 pub const SECTOR: usize = 128;
+
+const NO_BYTES: &[u8] = &[];
 
 // What every record tells of the log: its own serial number, the serial that the log began with
 // when it was written, and the number of transactions before it.
@@ -71,6 +76,45 @@ fn good_label(sector: &[u8], place: usize, places: usize) -> Option<Label>
         return None;
     }
     Some(label)
+}
+
+// Lays the record out in the sector, and says so. A record that breaks its kind's rule, or a buffer
+// that is no sector, is refused, and the buffer stays as it was.
+pub fn write(record: &Record, sector: &mut [u8]) -> bool
+    ensures done { λ r. ⌜ (T r → Writable (entry (now («record» .entry))) (now (sector .entry)) × (now (sector .exit) ≡ laid-out (entry (now («record» .entry))))) ⌝ }
+    ensures refused { λ r. ⌜ (r ≡ false → (Writable (entry (now («record» .entry))) (now (sector .entry)) → ⊥) × (now (sector .exit) ≡ now (sector .entry))) ⌝ }
+{
+    let (label, bytes) = parts(record);
+    if sector.len() != SECTOR || !fits(label.kind, label.page, label.offset, label.length) {
+        return false;
+    }
+    lay_out(sector, label, bytes);
+    true
+}
+
+// The label and the bytes of a record.
+fn parts<'a>(record: &Record<'a>) -> (Label, &'a [u8])
+    ensures { λ r. ⌜ (spelled (r .0) (now (r .1)) ≡ entry (now («record» .entry))) × (r .0 .length ≡ length (now (r .1))) ⌝ }
+{
+    let (kind, head, page, offset, bytes) = match *record {
+        Record::Part {
+            head,
+            page,
+            offset,
+            last,
+            bytes,
+        } => (if last { 2 } else { 1 }, head, page, offset, bytes),
+        Record::Page { head, page, bytes } => (3, head, page, 0, bytes),
+        Record::Mark { head } => (4, head, 0, 0, NO_BYTES),
+    };
+    let label = Label {
+        head,
+        page,
+        offset,
+        length: bytes.len(),
+        kind,
+    };
+    (label, bytes)
 }
 
 // The record that a sector with this label holds.
