@@ -34,11 +34,11 @@ label e size =
     ++ digits 2 (e .page) ++ digits 2 (e .offset) ++ digits 2 size ++ (e .kind ∷ 0 ∷ [])
 
 -- The sector of a record: its label, its bytes, and zeros after them.
-abbrev pub laid-out : Entry → List ℕ
+unfoldable pub laid-out : Entry → List ℕ
 laid-out e = label e (length (e .bytes)) ++ e .bytes ++ replicate (96 - length (e .bytes)) 0
 
 -- What a sector says, where it is good.
-abbrev pub reads-as : List ℕ → Entry
+unfoldable pub reads-as : List ℕ → Entry
 reads-as sector =
     record {
       kind = getD sector 30 0;

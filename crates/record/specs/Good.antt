@@ -1,10 +1,11 @@
 -- Which sectors are good.
 use Prim.Native.Nat.{ℕ, _+_, _-_, _%_, _^_, _≤_, _<_}
 use mathlib.Core.Path.{_≡_}
+use mathlib.Core.Bool.{Bool, true, false}
 use mathlib.Core.List.{List}
 use lib.ListN.{length, getD}
 use Rattle.record.specs.Fields.{field}
-use Rattle.record.specs.Entry.{Entry, entry, reads-as}
+use Rattle.record.specs.Entry.{Entry, entry, reads-as, laid-out}
 use Rattle.record.specs.declared.Record.{Record}
 use Rattle.std.specs.declared.option.Option.{Option}
 use Rattle.std.specs.declared.option.Option.the-variants.{Some, None}
@@ -26,12 +27,12 @@ pub record Fits (kind page offset size : ℕ) : Type 0 where
   pub whole : kind ≡ 3 → size ≡ 96
   pub mark : kind ≡ 4 → (page ≡ 0) × (offset ≡ 0) × (size ≡ 0)
 
--- A good sector at this place of a log of so many sectors.
+-- A sector that is good at this place of a log of so many sectors.
 pub record Good (places place : ℕ) (sector : List ℕ) : Type 0 where
   pub long : length sector ≡ 128
   pub blank : getD sector 31 0 ≡ 0
-  pub placed : Placed places place (reads-as sector .serial) (reads-as sector .low) (reads-as sector .ordinal)
-  pub fits : Fits (reads-as sector .kind) (reads-as sector .page) (reads-as sector .offset) (field 28 2 sector)
+  pub placed : Placed places place (field 0 8 sector) (field 8 8 sector) (field 16 8 sector)
+  pub fits : Fits (getD sector 30 0) (field 24 2 sector) (field 26 2 sector) (field 28 2 sector)
 
 -- A record that keeps the rule of its kind, and a buffer that is a sector.
 pub record Writable (e : Entry) (buffer : List ℕ) : Type 0 where
@@ -48,7 +49,12 @@ abbrev pub Answered : ℕ → ℕ → List ℕ → Option Record → Type 0
 Answered places place sector (Some r) = Good places place sector
 Answered places place sector None = Good places place sector → ⊥
 
--- The record that is answered is what the sector says.
-abbrev pub Says-so : List ℕ → Option Record → Type 0
-Says-so sector (Some r) = entry r ≡ reads-as sector
-Says-so sector None = Unit {0}
+-- The record that is answered is the one that the sector holds.
+abbrev pub Told : List ℕ → Option Record → Type 0
+Told sector (Some r) = entry r ≡ reads-as sector
+Told sector None = Unit {0}
+
+-- The record was laid out in the buffer, or refused with the buffer as it was.
+abbrev pub Written : Entry → List ℕ → Bool → List ℕ → Type 0
+Written e before true after = Writable e before × (after ≡ laid-out e)
+Written e before false after = (Writable e before → ⊥) × (after ≡ before)

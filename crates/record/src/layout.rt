@@ -62,12 +62,20 @@ fn put_label(sector: &mut [u8], label: Label)
     put(sector, 30, &[label.kind, 0]);
 }
 
+// Puts the bytes after the label, and zeros after the bytes.
+fn put_bytes(sector: &mut [u8], bytes: &[u8])
+    requires { ⌜ length (now sector) ≡ 128 ⌝ ∗ ⌜ length (now bytes) ≤ 96 ⌝ }
+    ensures { λ _. ⌜ now (sector .exit) ≡ take 32 (now (sector .entry)) ++ now (bytes .entry) ++ replicate (96 - length (now (bytes .entry))) 0 ⌝ }
+{
+    put(sector, 32, bytes);
+    clear(sector, 32 + bytes.len());
+}
+
 // Lays the record with this label and these bytes out.
 pub fn lay_out(sector: &mut [u8], label: Label, bytes: &[u8])
     requires { ⌜ length (now sector) ≡ 128 ⌝ ∗ ⌜ label .length ≤ 96 ⌝ ∗ ⌜ length (now bytes) ≡ label .length ⌝ }
     ensures { λ _. ⌜ now (sector .exit) ≡ laid-out (spelled label (now (bytes .entry))) ⌝ }
 {
     put_label(sector, label);
-    put(sector, 32, bytes);
-    clear(sector, 32 + bytes.len());
+    put_bytes(sector, bytes);
 }

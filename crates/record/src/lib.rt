@@ -1,11 +1,9 @@
 // A log's record in a sector of a device: reading a sector as a record, and laying a record out.
 ghost use Prim.Native.Nat.{_≤_, _<_, _+_};
-ghost use Rattle.record.specs.Entry.{entry, reads-as, laid-out};
-ghost use Rattle.record.specs.Good.{Fits, Writable, Answered, Says-so};
+ghost use Rattle.record.specs.Entry.{entry, reads-as};
+ghost use Rattle.record.specs.Good.{Fits, Answered, Told, Written};
 ghost use Rattle.record.specs.Label.{Says, Judged, spelled};
-ghost use lib.Dec.{T};
-ghost use lib.ListN.{length};
-ghost use mathlib.Core.Bool.{false};
+ghost use lib.ListN.{length, take, drop};
 ghost use mathlib.Core.Path.{_≡_};
 
 mod fields;
@@ -55,7 +53,7 @@ pub enum Record<'a> {
 // The record in a sector at this place of a log of so many sectors, or none where the sector is not good.
 pub fn read<'a>(sector: &'a [u8], place: usize, places: usize) -> Option<Record<'a>>
     ensures good { λ r. ⌜ Answered places place (now (sector .entry)) r ⌝ }
-    ensures says { λ r. ⌜ Says-so (now (sector .entry)) r ⌝ }
+    ensures told { λ r. ⌜ Told (now (sector .entry)) r ⌝ }
 {
     let label = good_label(sector, place, places)?;
     Some(content(label, sector))
@@ -81,8 +79,7 @@ fn good_label(sector: &[u8], place: usize, places: usize) -> Option<Label>
 // Lays the record out in the sector, and says so. A record that breaks its kind's rule, or a buffer
 // that is no sector, is refused, and the buffer stays as it was.
 pub fn write(record: &Record, sector: &mut [u8]) -> bool
-    ensures done { λ r. ⌜ (T r → Writable (entry (now («record» .entry))) (now (sector .entry)) × (now (sector .exit) ≡ laid-out (entry (now («record» .entry))))) ⌝ }
-    ensures refused { λ r. ⌜ (r ≡ false → (Writable (entry (now («record» .entry))) (now (sector .entry)) → ⊥) × (now (sector .exit) ≡ now (sector .entry))) ⌝ }
+    ensures { λ r. ⌜ Written (entry (now («record» .entry))) (now (sector .entry)) r (now (sector .exit)) ⌝ }
 {
     let (label, bytes) = parts(record);
     if sector.len() != SECTOR || !fits(label.kind, label.page, label.offset, label.length) {
@@ -122,7 +119,16 @@ fn content<'a>(label: Label, sector: &'a [u8]) -> Record<'a>
     requires { ⌜ length (now sector) ≡ 128 ⌝ ∗ ⌜ Says (now sector) label ⌝ ∗ ⌜ Fits (label .kind) (label .page) (label .offset) (label .length) ⌝ }
     ensures { λ r. ⌜ entry r ≡ reads-as (now (sector .entry)) ⌝ }
 {
-    named(label, &sector[32..32 + label.length])
+    named(label, bytes_in(sector, label.length))
+}
+
+// The bytes of a record with so many.
+fn bytes_in<'a>(sector: &'a [u8], size: usize) -> &'a [u8]
+    requires { ⌜ 32 + size ≤ length (now sector) ⌝ }
+    ensures those { λ r. ⌜ now r ≡ take size (drop 32 (now (sector .entry))) ⌝ }
+    ensures long { λ r. ⌜ length (now r) ≡ size ⌝ }
+{
+    &sector[32..32 + size]
 }
 
 // The record with this label and these bytes.
