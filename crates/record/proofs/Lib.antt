@@ -1,0 +1,2 @@
+-- Lemmas on numbers in bytes, and what is known of a log's records.
+mod Numbers

@@ -1,0 +1,5 @@
+-- What a sector of a log holds.
+pub mod Fields
+pub mod Entry
+pub mod Good
+pub mod Label

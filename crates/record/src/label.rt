@@ -1,0 +1,82 @@
+// The numbers before a sector's data, and the rules that they keep in a good sector.
+ghost use Prim.Native.Nat.{_≤_, _<_, _+_};
+ghost use Rattle.record.specs.Good.{Placed, Fits};
+ghost use Rattle.record.specs.Label.{Says};
+ghost use lib.Dec.{T};
+ghost use lib.ListN.{length};
+ghost use mathlib.Core.Path.{_≡_};
+use crate::Head;
+use crate::fields::long;
+use crate::fields::short;
+
+// The number of bytes in a page, and the most that a sector has room for.
+pub const PAGE: usize = 96;
+
+const PAGES: u16 = 64;
+
+// Serials end where the sign of a 64-bit number would begin.
+const SERIALS: u64 = 0x8000_0000_0000_0000;
+
+#[derive(Clone, Copy)]
+pub struct Label {
+    pub head: Head,
+    pub page: u16,
+    pub offset: u16,
+    pub length: usize,
+    pub kind: u8,
+}
+
+// The label of a sector.
+pub fn label_in(sector: &[u8]) -> Label
+    requires { ⌜ length (now sector) ≡ 128 ⌝ }
+    ensures { λ r. ⌜ Says (now (sector .entry)) r ⌝ }
+{
+    let head = Head {
+        serial: long(&sector[0..8]),
+        low: long(&sector[8..16]),
+        ordinal: long(&sector[16..24]),
+    };
+    Label {
+        head,
+        page: short(&sector[24..26]),
+        offset: short(&sector[26..28]),
+        length: short(&sector[28..30]) as usize,
+        kind: sector[30],
+    }
+}
+
+// Whether a record with this head may stand at this place of a log of so many sectors.
+pub fn placed(head: Head, place: usize, places: usize) -> bool
+    ensures only { λ r. ⌜ (T r → Placed places place (head .serial) (head .low) (head .ordinal)) ⌝ }
+    ensures all { λ r. ⌜ (Placed places place (head .serial) (head .low) (head .ordinal) → T r) ⌝ }
+{
+    1 <= head.serial
+        && head.serial < SERIALS
+        && 1 <= head.low
+        && head.low <= head.serial
+        && head.serial - head.low < places as u64
+        && head.ordinal < head.serial
+        && head.serial % places as u64 == place as u64
+}
+
+// Whether page, offset and length are those of a piece of a page.
+fn within(page: u16, offset: u16, length: usize) -> bool
+    ensures only { λ r. ⌜ (T r → (page < 64) × (1 ≤ length) × (offset + length ≤ 96)) ⌝ }
+    ensures all { λ r. ⌜ (page < 64 → 1 ≤ length → offset + length ≤ 96 → T r) ⌝ }
+{
+    let offset = offset as usize;
+    page < PAGES && 1 <= length && offset <= PAGE && length <= PAGE - offset
+}
+
+// Whether page, offset and length keep the rule of their kind.
+pub fn fits(kind: u8, page: u16, offset: u16, length: usize) -> bool
+    ensures only { λ r. ⌜ (T r → Fits kind page offset length) ⌝ }
+    ensures all { λ r. ⌜ (Fits kind page offset length → T r) ⌝ }
+{
+    match kind {
+        1 | 2 => within(page, offset, length),
+        3 => within(page, offset, length) && length == PAGE,
+        4 => page == 0 && offset == 0 && length == 0,
+        _ => false,
+    }
+}
