@@ -47,7 +47,9 @@ pub enum Record<'a> {
         page: u16,
         bytes: &'a [u8],
     },
-    Mark { head: Head },
+    Mark {
+        head: Head,
+    },
 }
 
 // The record in a sector at this place of a log of so many sectors, or none where the sector is not good.
@@ -137,7 +139,10 @@ fn named<'a>(label: Label, bytes: &'a [u8]) -> Record<'a>
     ensures { λ r. ⌜ entry r ≡ spelled label (now (bytes .entry)) ⌝ }
 {
     let Label {
-        head, page, offset, ..
+        head,
+        page,
+        offset,
+        ..
     } = label;
     match label.kind {
         3 => Record::Page { head, page, bytes },

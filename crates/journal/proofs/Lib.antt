@@ -1,0 +1,2 @@
+-- Lemmas on the log.
+pub mod Unique

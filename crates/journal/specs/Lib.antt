@@ -1,0 +1,5 @@
+-- The log of a device, seen by serial, and what an opening makes of it.
+pub mod Decide
+pub mod Log
+pub mod Memory
+pub mod Opening

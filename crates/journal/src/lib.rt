@@ -1,0 +1,7 @@
+// The log of a device, seen by serial: what an opening finds in it.
+ghost use Rattle.journal.specs.Opening.{Determined};
+
+// Names the theorem that what an opening finds is determined by what the sectors show.
+pub fn finding_is_determined()
+    ensures { λ _. ⌜ Determined ⌝ }
+{}
