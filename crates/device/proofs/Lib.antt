@@ -2,3 +2,4 @@
 pub mod Membership
 pub mod Changes
 pub mod Sectors
+pub mod Plans

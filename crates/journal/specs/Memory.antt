@@ -21,7 +21,7 @@ abbrev pub applied : Entry → ℕ → ℕ → ℕ
 applied e i v = cond (writes? e i) (getD (e .bytes) (i - place-of e) 0) v
 
 -- Byte i once n records of a log are applied in order, from serial low on.
-pub replayed : (ℕ → Entry) → ℕ → ℕ → (ℕ → ℕ) → ℕ → ℕ
+unfoldable pub replayed : (ℕ → Entry) → ℕ → ℕ → (ℕ → ℕ) → ℕ → ℕ
 replayed log low zero base i = base i
 replayed log low (suc n) base i = applied (log (low + n)) i (replayed log low n base i)
 

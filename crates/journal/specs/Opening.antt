@@ -45,7 +45,7 @@ abbrev pub Usable : ℕ → (ℕ → Shown) → (ℕ → Entry) → ℕ → ℕ 
 Usable n shows log low c p = shows (n + p) ≡ spoiled → Covers log low c p
 
 -- How many of the first k places hold a record with a serial above c: the strays.
-pub strays : ℕ → (ℕ → Shown) → ℕ → ℕ → ℕ
+unfoldable pub strays : ℕ → (ℕ → Shown) → ℕ → ℕ → ℕ
 strays n shows c zero = 0
 strays n shows c (suc k) = cond (ltb c (said n k (shows k) .serial)) 1 0 + strays n shows c k
 

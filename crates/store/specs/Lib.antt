@@ -1,0 +1,3 @@
+-- What a store is, and what its calls answer and leave.
+pub mod Fault
+pub mod Format

@@ -1,0 +1,6 @@
+// A recoverable store over any device: its log, its memory, and what an opening makes of them.
+mod fault;
+mod format;
+
+pub use fault::DeviceStoreFault;
+pub use fault::StoreFault;
