@@ -1,2 +1,3 @@
 -- Lemmas on the log.
+pub mod Overlay
 pub mod Unique

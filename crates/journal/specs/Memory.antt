@@ -12,13 +12,13 @@ use Rattle.record.specs.Entry.{Entry}
 abbrev pub place-of : Entry → ℕ
 place-of e = e .page * 96 + e .offset
 
--- Byte i is one of those that the record writes.
-abbrev pub writes? : Entry → ℕ → Bool
-writes? e i = cond (leb (place-of e) i) (ltb i (place-of e + length (e .bytes))) false
+-- Byte i once these bytes are put in from `place` on, if it was v before.
+abbrev pub overlaid : ℕ → List ℕ → ℕ → ℕ → ℕ
+overlaid place bytes i v = cond (cond (leb place i) (ltb i (place + length bytes)) false) (getD bytes (i - place) 0) v
 
 -- Byte i once the record is applied, if it was v before.
 abbrev pub applied : Entry → ℕ → ℕ → ℕ
-applied e i v = cond (writes? e i) (getD (e .bytes) (i - place-of e) 0) v
+applied e i v = overlaid (place-of e) (e .bytes) i v
 
 -- Byte i once n records of a log are applied in order, from serial low on.
 unfoldable pub replayed : (ℕ → Entry) → ℕ → ℕ → (ℕ → ℕ) → ℕ → ℕ

@@ -1,3 +1,4 @@
 -- What a store is, and what its calls answer and leave.
 pub mod Fault
 pub mod Format
+pub mod Reading

@@ -1,6 +1,7 @@
 // A recoverable store over any device: its log, its memory, and what an opening makes of them.
 mod fault;
 mod format;
+mod reading;
 
 pub use fault::DeviceStoreFault;
 pub use fault::StoreFault;
