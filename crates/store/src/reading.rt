@@ -3,7 +3,7 @@ ghost use Prim.Native.Nat.{ℕ, _≤_, _<_, _+_, _*_, _%_};
 ghost use Rattle.journal.specs.Log.{log};
 ghost use Rattle.journal.specs.Memory.{overlaid, applied, byte-of};
 ghost use Rattle.record.specs.Entry.{entry};
-ghost use Rattle.store.specs.Reading.{Looks, Fetched};
+ghost use Rattle.store.specs.Reading.{Looks, Fetched, Home-loaded, Homes-loaded};
 ghost use lib.ListN.{length, getD};
 ghost use mathlib.Core.Bool.{Bool};
 ghost use mathlib.Core.Path.{_≡_};
@@ -30,4 +30,40 @@ pub fn put_bytes(memory: &mut [u8], place: usize, bytes: &[u8])
     ensures { λ _. ⌜ ((i : ℕ) → getD (now (memory .exit)) i 0 ≡ overlaid place (now (bytes .entry)) i (getD (now (memory .entry)) i 0)) ⌝ }
 {
     memory[place..place + bytes.len()].copy_from_slice(bytes);
+}
+
+// Starts a page from its home; false where that is spoiled, and then from zeros.
+fn load_home<D: Device>(device: &mut D, places: usize, page: usize, memory: &mut [u8]) -> Result<bool, DeviceFault>
+    requires page { ⌜ page < 64 ⌝ }
+    requires few { ⌜ places ≤ 1024 ⌝ }
+    requires room { ⌜ places + 64 ≤ D·Device .disk (now device) .plate .sectors ⌝ }
+    requires whole { ⌜ length (now memory) ≡ 6144 ⌝ }
+    ensures { λ r. ⌜ Looks (D·Device .disk (now (device .entry))) (Home-loaded (D·Device .disk (now (device .entry))) places page (now (memory .entry)) (now (memory .exit))) r (D·Device .disk (now (device .exit))) ⌝ }
+{
+    let mut sector = [0u8; 128];
+    let readable = fetch(device, places + page, &mut sector)?;
+    put_bytes(memory, page * 96, &sector[0..96]);
+    Ok(readable)
+}
+
+// Starts every page from its home, the lowest first. Answers a page whose home is spoiled and that no
+// record covers, where there is one.
+pub fn load_homes<D: Device>(
+    device: &mut D,
+    places: usize,
+    covered: &[bool; 64],
+    memory: &mut [u8],
+) -> Result<Option<usize>, DeviceFault>
+    requires few { ⌜ places ≤ 1024 ⌝ }
+    requires room { ⌜ places + 64 ≤ D·Device .disk (now device) .plate .sectors ⌝ }
+    requires whole { ⌜ length (now memory) ≡ 6144 ⌝ }
+    ensures { λ r. ⌜ Looks (D·Device .disk (now (device .entry))) (Homes-loaded (D·Device .disk (now (device .entry))) places (now (covered .entry)) (now (memory .exit))) r (D·Device .disk (now (device .exit))) ⌝ }
+{
+    for page in 0..64usize {
+        let readable = load_home(device, places, page, memory)?;
+        if !readable && !covered[page] {
+            return Ok(Some(page));
+        }
+    }
+    Ok(None)
 }
