@@ -1,15 +1,13 @@
 -- What any layer may use of the disk below it.
 use Prim.Native.Nat.{ℕ, _<_, _≤_}
-use mathlib.Core.Path.{_≡_, refl, sym, _∙_, ap, subst}
-use mathlib.Core.Bool.{true, false}
+use mathlib.Core.Path.{_≡_, sym, ap, subst}
 use mathlib.Core.Logic.{_⊎_, inl, inr, _≢_}
-use mathlib.Core.List.{List, [], _∷_}
+use mathlib.Core.List.{List, _∷_}
 use native.Mathlib.Omega.{arith}
-use lib.ListN.{length}
 use Rattle.std.specs.declared.result.Result.the-variants.{Ok, Err}
 use Rattle.device.specs.declared.fault.DeviceFault.the-variants.{Power, Misaddressed, Unfit, Spoiled}
-use Rattle.device.specs.Disk.{Disk, Plate, Shown, spoiled, holds, Among, Stands}
-use Rattle.device.specs.Meaning.{Addressed, Nothing-new, Lost, Torn, Was-off, Failed, Wrote, Answer, Read, Read-done, Read-spoiled, Refused}
+use Rattle.device.specs.Disk.{Disk, Plate, Among, Stands}
+use Rattle.device.specs.Meaning.{Answer, Addressed, Nothing-new, Failed, Read}
 use Rattle.device.specs.Trace.{Cut, wrote}
 
 -- a sector that is there, and a buffer that fits, are not refused
@@ -21,7 +19,7 @@ not-astray d s n a (inr ne) = ne (a .fits)
 pub still-addressed : (d e : Disk) (s n : ℕ) → e .plate ≡ d .plate → Addressed d s n → Addressed e s n
 still-addressed d e s n p a = record { there = subst (λ (q : Plate). s < q .sectors) (sym p) (a .there); fits = a .fits }
 
--- where the plate and the origin of a call that was cut come from
+-- a call that was cut leaves the plate, and its origin is one of the ends' or 0
 pub cut-plate : (d : Disk) (s : ℕ) (b : List ℕ) (o : ℕ) (e : Disk) → Cut (wrote s b) d o e → e .plate ≡ d .plate
 cut-plate d s b o e (inl w) = ap (λ (x : Disk). x .plate) (w .same)
 cut-plate d s b o e (inr t) = t .plate

@@ -1,3 +1,4 @@
+-- The lemmas behind the cache.
 mod Rings
 mod Lines
 mod Disks

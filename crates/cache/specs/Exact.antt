@@ -1,4 +1,4 @@
--- What a cache does in each call: what it holds after it, in which turn, and what it did below.
+-- What a cache does in each call, on every way out: what it holds after it, in which turn, and what it did below.
 use Prim.Native.Nat.{ℕ, _<_, _≤_}
 use mathlib.Core.Path.{_≡_}
 use mathlib.Core.Bool.{Bool, true, false}
@@ -130,7 +130,8 @@ pub record Emptied (c : State) (c' : State) : Type 0 where
   pub turns : c' .held ≡ []
   pub on : c' .on ≡ true
 
--- Some held sectors were sent down from `below`, and the call after them was cut: the others are left.
+-- Some held sectors were sent down, and the next call below was cut by power: the others are left.
+-- (That it was power rests on the others being sectors of the disk, as all are in a sound cache.)
 pub record Cut-off (below : Disk) (held : List Line) (o : ℕ) (below' : Disk) (left : List Line) : Type 0 where
   pub sent : List Line
   pub between : Disk

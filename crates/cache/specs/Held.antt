@@ -1,10 +1,7 @@
 -- Which sectors the ring of slots holds, in turn.
 use Prim.Native.Nat.{ℕ}
-use mathlib.Core.List.{List, [], _∷_, _++_, map}
+use mathlib.Core.List.{List, _++_, map}
 use lib.ListN.{take, drop}
-use denote.Ref.{now}
-use Rattle.std.specs.declared.option.Option.{Option}
-use Rattle.std.specs.declared.option.Option.the-variants.{Some, None}
 use Rattle.cache.specs.declared.held.Slot.{Slot}
 use Rattle.cache.specs.declared.held.Held.{Held}
 use Rattle.cache.specs.Line.{Line, line}

@@ -20,7 +20,7 @@ abbrev pub later : Option (List ℕ) → Option (List ℕ) → Option (List ℕ)
 later x (Some b) = Some b
 later x None = x
 
--- The bytes held for sector s, if it is held.
+-- The bytes held for sector s, if it is held: those last taken in.
 abbrev pub kept : ℕ → List Line → Option (List ℕ)
 kept s [] = None
 kept s (l ∷ ls) = later (cond (eqb s (l .sector)) (Some (l .bytes)) None) (kept s ls)

@@ -4,7 +4,7 @@ use mathlib.Core.Bool.{Bool, cond}
 use mathlib.Core.List.{List, [], _∷_}
 use lib.Dec.{eqb}
 use lib.ListN.{length}
-use Rattle.device.specs.Disk.{Disk, Plate, Shown, spoiled, holds}
+use Rattle.device.specs.Disk.{Disk, Plate, spoiled, holds}
 use Rattle.device.specs.Meaning.{Addressed}
 use Rattle.cache.specs.declared.Cache.{Cache}
 use Rattle.cache.specs.Line.{Line}

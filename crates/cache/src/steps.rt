@@ -78,6 +78,7 @@ impl<D: Device> Cache<D> {
         ensures exact { λ r. ⌜ Writes (state (D·Device .disk) (now (self .entry))) sector (now (bytes .entry)) r (state (D·Device .disk) (now (self .exit))) ⌝ }
         ensures sound { λ _. ⌜ (Sound (state (D·Device .disk) (now (self .entry))) → Sound (state (D·Device .disk) (now (self .exit)))) ⌝ }
     {
+        // Off until the sector is down, so that it stays off where power fails.
         self.on = false;
         self.send_one()?;
         self.on = true;
@@ -92,6 +93,7 @@ impl<D: Device> Cache<D> {
         ensures exact { λ r. ⌜ Barriers (state (D·Device .disk) (now (self .entry))) r (state (D·Device .disk) (now (self .exit))) ⌝ }
         ensures sound { λ _. ⌜ (Sound (state (D·Device .disk) (now (self .entry))) → Sound (state (D·Device .disk) (now (self .exit)))) ⌝ }
     {
+        // Off until all is settled, so that it stays off where power fails.
         self.on = false;
         self.send_all()?;
         self.below.barrier()?;

@@ -13,7 +13,7 @@ use device::SECTOR;
 
 impl Slot {
     // The sector with a copy of its bytes.
-    pub fn new(sector: usize, bytes: &[u8]) -> Self
+    pub(crate) fn new(sector: usize, bytes: &[u8]) -> Self
         requires { ⌜ length (now bytes) ≡ 128 ⌝ }
         ensures { λ r. ⌜ line-of r ≡ line sector (now (bytes .entry)) ⌝ }
     {
@@ -27,7 +27,7 @@ impl Slot {
 }
 
 impl Held {
-    pub fn new() -> Self
+    pub(crate) fn new() -> Self
         ensures { λ r. ⌜ in-turn r ≡ [] ⌝ }
     {
         Held {
@@ -40,14 +40,14 @@ impl Held {
         }
     }
 
-    pub fn len(&self) -> usize
+    pub(crate) fn len(&self) -> usize
         ensures { λ r. ⌜ r ≡ length (in-turn (now (self .entry))) ⌝ }
     {
         self.count
     }
 
-    // The slot of this sector, if it is held.
-    pub fn find(&self, sector: usize) -> Option<&Slot>
+    // The slot of this sector, if it is held. It is looked for from the end, where a later write would be.
+    pub(crate) fn find(&self, sector: usize) -> Option<&Slot>
         ensures { λ r. ⌜ elim r [ Some s ↦ kept sector (in-turn (now (self .entry))) ≡ Some (now s .bytes) | None ↦ kept sector (in-turn (now (self .entry))) ≡ None ] ⌝ }
     {
         for turn in (0..self.count).rev() {
@@ -59,14 +59,14 @@ impl Held {
         None
     }
 
-    pub fn has(&self, sector: usize) -> bool
+    pub(crate) fn has(&self, sector: usize) -> bool
         ensures { λ r. ⌜ r ≡ is-held sector (in-turn (now (self .entry))) ⌝ }
     {
         self.find(sector).is_some()
     }
 
-    // Gives the sector its new bytes where it is held. A slot out of use may change too, unseen.
-    pub fn rewrite(&mut self, slot: Slot)
+    // Gives the sector its new bytes in its old turn. A slot out of use may change too, unseen.
+    pub(crate) fn rewrite(&mut self, slot: Slot)
         ensures { λ _. ⌜ in-turn (now (self .exit)) ≡ rewritten (slot .sector) (slot .bytes) (in-turn (now (self .entry))) ⌝ }
     {
         for i in 0..SLOTS {
@@ -77,7 +77,7 @@ impl Held {
     }
 
     // Takes a sector in at the end.
-    pub fn push(&mut self, slot: Slot)
+    pub(crate) fn push(&mut self, slot: Slot)
         requires { ⌜ length (in-turn (now self)) < 8 ⌝ }
         ensures { λ _. ⌜ in-turn (now (self .exit)) ≡ in-turn (now (self .entry)) ++ line-of slot ∷ [] ⌝ }
     {
@@ -86,7 +86,7 @@ impl Held {
     }
 
     // The slot of the longest held sector.
-    pub fn oldest(&self) -> &Slot
+    pub(crate) fn oldest(&self) -> &Slot
         requires { ⌜ 0 < length (in-turn (now self)) ⌝ }
         ensures { λ r. ⌜ in-turn (now (self .entry)) ≡ line-of (now r) ∷ drop 1 (in-turn (now (self .entry))) ⌝ }
     {
@@ -94,7 +94,7 @@ impl Held {
     }
 
     // Forgets the longest held sector.
-    pub fn drop_oldest(&mut self)
+    pub(crate) fn drop_oldest(&mut self)
         requires { ⌜ 0 < length (in-turn (now self)) ⌝ }
         ensures { λ _. ⌜ in-turn (now (self .exit)) ≡ drop 1 (in-turn (now (self .entry))) ⌝ }
     {
@@ -103,7 +103,7 @@ impl Held {
     }
 
     // Forgets every held sector.
-    pub fn clear(&mut self)
+    pub(crate) fn clear(&mut self)
         ensures { λ _. ⌜ in-turn (now (self .exit)) ≡ [] ⌝ }
     {
         self.count = 0;

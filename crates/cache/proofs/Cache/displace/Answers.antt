@@ -1,3 +1,4 @@
+-- A sector that displaces the longest held one: sent down or cut, then taken in.
 use Prim.Native.Nat.{_<_}
 use mathlib.Core.Path.{_≡_, refl, _∙_, ap}
 use mathlib.Core.List.{List, [], _∷_, _++_}

@@ -1,3 +1,4 @@
+-- A barrier: all sent down and settled, or cut in either part.
 use mathlib.Core.Path.{_≡_, refl, sym, _∙_}
 use Rattle.std.proofs.shelf.Results.{err-from-errBy}
 use Rattle.cache.proofs.Sending.{emptied-meaning, emptied-exact, emptied-sound, unsettled, stopped, stopped-sound}

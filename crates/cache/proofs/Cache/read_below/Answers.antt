@@ -1,3 +1,4 @@
+-- A read below means a read of the cache, since the sector is not held.
 use mathlib.Core.Path.{sym}
 use Rattle.cache.proofs.Calls.{read-below-meaning, read-below-exact, read-below-sound}
 use Rattle.cache.specs.Held.{in-turn}

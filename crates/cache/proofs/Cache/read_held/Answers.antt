@@ -1,3 +1,4 @@
+-- The bytes that are held are what the cache shows.
 use mathlib.Core.Bool.{true}
 use mathlib.Core.Path.{_≡_, refl, sym, _∙_, ap}
 use Rattle.std.specs.declared.option.Option.the-variants.{Some}

@@ -1,3 +1,4 @@
+-- What a restart finds below might stand in the cache, whatever it held.
 use Rattle.cache.proofs.Calls.{made, restart-meaning, restart-exact, sound-none}
 use Rattle.cache.specs.Held.{in-turn}
 use Rattle.cache.specs.State.{state}

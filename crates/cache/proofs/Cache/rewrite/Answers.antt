@@ -1,3 +1,4 @@
+-- New bytes in a held sector are a write of the cache.
 use mathlib.Core.Path.{_≡_, refl, _∙_, ap}
 use Rattle.cache.proofs.Calls.{rewrite-meaning, rewrite-sound}
 use Rattle.cache.specs.Held.{in-turn}

@@ -1,3 +1,4 @@
+-- All are sent down: one more, a cut, and the end.
 use mathlib.Core.Path.{_≡_, refl, sym, _∙_}
 use native.Mathlib.Omega.{arith}
 use Rattle.std.proofs.shelf.Lists.{nil-from-length}

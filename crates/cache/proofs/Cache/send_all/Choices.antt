@@ -1,3 +1,4 @@
+-- The loop that sends all held sectors down.
 use lib.ListN.{length}
 use Rattle.device.specs.Meaning.{Answer}
 use Rattle.cache.specs.Held.{in-turn}

@@ -1,3 +1,4 @@
+-- A sector taken in at the end is a write of the cache.
 use mathlib.Core.Path.{_≡_, refl, _∙_, ap}
 use mathlib.Core.List.{[], _∷_, _++_}
 use Rattle.cache.proofs.Calls.{take-meaning, take-sound}

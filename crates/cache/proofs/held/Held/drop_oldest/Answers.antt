@@ -1,3 +1,4 @@
+-- The ring from its next slot on has the rest of the list.
 use Prim.Native.Nat.{_<_}
 use native.Mathlib.Omega.{arith}
 use Rattle.cache.proofs.Lines.{lines-length, lines-rest}

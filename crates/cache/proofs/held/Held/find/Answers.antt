@@ -1,3 +1,4 @@
+-- Going from the end, the first slot of the sector has what is kept for it.
 use Prim.Native.Nat.{ℕ, _+_, _-_, _<_, _≤_}
 use mathlib.Core.Path.{_≡_, sym, ap, _∙_}
 use mathlib.Core.List.{[]}

@@ -1,3 +1,4 @@
+-- The loop that looks for a sector from the end.
 use mathlib.Core.Path.{_≡_}
 use lib.ListN.{drop}
 use Rattle.std.specs.declared.option.Option.the-variants.{None}

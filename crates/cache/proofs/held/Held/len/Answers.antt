@@ -1,3 +1,4 @@
+-- The list is as long as the count says.
 use mathlib.Core.Path.{sym}
 use Rattle.cache.proofs.Lines.{lines-length}
 use Rattle.cache.proofs.held.Held.len.Needs as need

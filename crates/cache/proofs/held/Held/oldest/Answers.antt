@@ -1,3 +1,4 @@
+-- The first slot has the head of the list.
 use Prim.Native.Nat.{_<_}
 use native.Mathlib.Omega.{arith}
 use Rattle.cache.proofs.Lines.{lines-length, lines-oldest}

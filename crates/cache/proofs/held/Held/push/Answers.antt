@@ -1,3 +1,4 @@
+-- The slot after the last one in use makes the list longer by its line.
 use Prim.Native.Nat.{_<_}
 use native.Mathlib.Omega.{arith}
 use lib.ListN.{length-set}

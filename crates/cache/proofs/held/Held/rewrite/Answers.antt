@@ -1,3 +1,4 @@
+-- Every slot of the sector is given its bytes.
 use Prim.Native.Nat.{_<_}
 use mathlib.Core.Path.{_≡_, sym, ap, _∙_}
 use native.Mathlib.Omega.{arith}

@@ -1,3 +1,4 @@
+-- The loop that goes over the slots.
 use mathlib.Core.Path.{_≡_}
 use mathlib.Core.List.{_++_, map}
 use lib.ListN.{take, drop}
