@@ -1,7 +1,7 @@
 // Reading the sectors of a device into memory.
 ghost use Prim.Native.Nat.{ℕ, _≤_, _<_, _+_, _*_, _%_};
 ghost use Rattle.journal.specs.Log.{log};
-ghost use Rattle.journal.specs.Memory.{overlaid, applied, byte-of};
+ghost use Rattle.journal.specs.Memory.{overlaid, applied, place-of};
 ghost use Rattle.record.specs.Entry.{entry};
 ghost use Rattle.store.specs.Reading.{Looks, Fetched, Home-loaded, Homes-loaded};
 ghost use lib.ListN.{length, getD};
@@ -66,4 +66,22 @@ pub fn load_homes<D: Device>(
         }
     }
     Ok(None)
+}
+
+// Puts the bytes of a record in their place; a mark has none.
+fn apply(record: &Record, memory: &mut [u8])
+    requires inside { ⌜ place-of (entry (now «record»)) + length (entry (now «record») .bytes) ≤ 6144 ⌝ }
+    requires whole { ⌜ length (now memory) ≡ 6144 ⌝ }
+    ensures { λ _. ⌜ ((i : ℕ) → getD (now (memory .exit)) i 0 ≡ applied (entry (now («record» .entry))) i (getD (now (memory .entry)) i 0)) ⌝ }
+{
+    match *record {
+        Record::Part {
+            page,
+            offset,
+            bytes,
+            ..
+        } => put_bytes(memory, page as usize * 96 + offset as usize, bytes),
+        Record::Page { page, bytes, .. } => put_bytes(memory, page as usize * 96, bytes),
+        Record::Mark { .. } => {}
+    }
 }
