@@ -1,2 +1,3 @@
 -- Lemmas on the log.
+pub mod Places
 pub mod Unique
