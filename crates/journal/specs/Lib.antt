@@ -2,4 +2,5 @@
 pub mod Decide
 pub mod Log
 pub mod Memory
+pub mod Notes
 pub mod Opening
