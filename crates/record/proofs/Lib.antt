@@ -1,2 +1,4 @@
 -- Lemmas on numbers in bytes, and what is known of a log's records.
 mod Numbers
+mod Again
+pub mod Laws
