@@ -5,13 +5,17 @@ use mathlib.Core.Logic.{_⊎_, inl, inr, ⊎-elim}
 use mathlib.Core.Bool.{Bool, true, false, cond}
 use mathlib.Core.List.{List, [], _∷_, _++_}
 use native.Mathlib.Omega.{arith}
-use Rattle.record.specs.Fields.{digits}
 use lib.ListN.{length, take, drop, getD, replicate}
 use Rattle.std.proofs.shelf.Lists.{take-at, take-append-drop, take-take, drop-take, getD-take, length-take-le, length-drop, length-append, length-replicate}
-use Rattle.std.proofs.shelf.Tests.{cases-lt}
-use Rattle.record.specs.Fields.{field}
+use Rattle.std.proofs.shelf.Tests.{cases-lt, cases-bool, both-ways, cond-true, cond-false}
+use Rattle.std.specs.declared.option.Option.{Option}
+use Rattle.std.specs.declared.option.Option.the-variants.{Some, None}
+use Rattle.record.specs.declared.Record.{Record}
+use Rattle.record.specs.Fields.{value, digits, field}
 use Rattle.record.specs.Entry.{Entry, laid-out, reads-as}
-use Rattle.record.specs.Good.{Placed, Fits, Good, Sound}
+use Rattle.record.specs.Good.{Placed, Fits, Good, Sound, Answered, Told}
+use Rattle.record.specs.Found.{bad, found, seen, good?}
+use Rattle.record.proofs.Finding.{good-yes, yes-good}
 use Rattle.record.proofs.Again.{serial-back, low-back, ordinal-back, page-back, offset-back, size-back, kind-back, blank-back, rest-back}
 
 -- no record has more than 96 bytes
@@ -113,3 +117,123 @@ laid-out-reads places place e sound =
 -- Zeros are nowhere good.
 pub zeros-bad : (places place : ℕ) → Good places place (replicate 128 0) → ⊥
 zeros-bad places place g = let from = g .placed .serial-from in omega arith
+
+-- What a good sector says may stand at its place.
+pub good-sound : (places place : ℕ) (b : List ℕ) → Good places place b → Sound places place (reads-as b)
+unfolding reads-as
+good-sound places place b g =
+    let small = fits-size _ _ _ _ (g .fits) in
+    let whole = g .long in
+    let rest : length (drop 32 b) ≡ 96 = simp length-drop (omega arith) in
+    let size : length (take (field 28 2 b) (drop 32 b)) ≡ field 28 2 b = length-take-le (field 28 2 b) (drop 32 b) (omega arith) in
+    record {
+      placed = g .placed;
+      fits = fits-same _ _ _ _ _ _ _ _ refl refl refl size (g .fits);
+    }
+
+-- Its numbers, one by one.
+pub good-kind : (places place : ℕ) (b : List ℕ) → Good places place b → (1 ≤ reads-as b .kind) × (reads-as b .kind ≤ 4)
+good-kind places place b g = good-sound places place b g .fits .known
+
+pub good-serial : (places place : ℕ) (b : List ℕ) → Good places place b → (1 ≤ reads-as b .serial) × (reads-as b .serial < 2 ^ 63)
+good-serial places place b g = let h = good-sound places place b g .placed in (h .serial-from, h .serial-to)
+
+pub good-place : (places place : ℕ) (b : List ℕ) → Good places place b → reads-as b .serial % places ≡ place
+good-place places place b g = good-sound places place b g .placed .here
+
+pub good-low : (places place : ℕ) (b : List ℕ) → Good places place b → (1 ≤ reads-as b .low) × (reads-as b .low ≤ reads-as b .serial)
+good-low places place b g = let h = good-sound places place b g .placed in (h .low-from, h .low-to)
+
+pub good-near : (places place : ℕ) (b : List ℕ) → Good places place b → reads-as b .serial - reads-as b .low < places
+good-near places place b g = good-sound places place b g .placed .near
+
+pub good-ordinal : (places place : ℕ) (b : List ℕ) → Good places place b → reads-as b .ordinal < reads-as b .serial
+good-ordinal places place b g = good-sound places place b g .placed .ordinal-below
+
+-- a part of the first k bytes
+same-part : (f n k : ℕ) (a b : List ℕ) → f + n ≤ k → take k b ≡ take k a → take n (drop f b) ≡ take n (drop f a)
+same-part f n k a b within same =
+    sym (drop-take f n b)
+    ∙ ap (λ (xs : List ℕ). drop f xs) (sym (take-take (f + n) k b within) ∙ ap (λ (xs : List ℕ). take (f + n) xs) same ∙ take-take (f + n) k a within)
+    ∙ drop-take f n a
+
+same-byte : (i k : ℕ) (a b : List ℕ) → i < k → take k b ≡ take k a → getD b i 0 ≡ getD a i 0
+same-byte i k a b within same =
+    sym (getD-take k b i 0 within) ∙ ap (λ (xs : List ℕ). getD xs i 0) same ∙ getD-take k a i 0 within
+
+same-field : (f n k : ℕ) (a b : List ℕ) → f + n ≤ k → take k b ≡ take k a → field f n b ≡ field f n a
+same-field f n k a b within same = ap value (same-part f n k a b within same)
+
+-- Bytes past a record's length do not matter: a sector with the same bytes up to there is good too,
+pub rest-good : (places place : ℕ) (a b : List ℕ) → Good places place a → length b ≡ 128 → take (32 + field 28 2 a) b ≡ take (32 + field 28 2 a) a → Good places place b
+rest-good places place a b g whole same =
+    let k : ℕ = 32 + field 28 2 a in
+    record {
+      long = whole;
+      blank = same-byte 31 k a b (omega arith) same ∙ g .blank;
+      placed = placed-same places place _ _ _ _ _ _ (same-field 0 8 k a b (omega arith) same) (same-field 8 8 k a b (omega arith) same) (same-field 16 8 k a b (omega arith) same) (g .placed);
+      fits = fits-same _ _ _ _ _ _ _ _ (same-byte 30 k a b (omega arith) same) (same-field 24 2 k a b (omega arith) same) (same-field 26 2 k a b (omega arith) same) (same-field 28 2 k a b (omega arith) same) (g .fits);
+    }
+
+-- and holds the same record.
+pub rest-reads : (a b : List ℕ) → take (32 + field 28 2 a) b ≡ take (32 + field 28 2 a) a → reads-as b ≡ reads-as a
+unfolding reads-as
+rest-reads a b same =
+    let k : ℕ = 32 + field 28 2 a in
+    same-entry (reads-as b) (reads-as a)
+    (same-byte 30 k a b (omega arith) same)
+    (same-field 0 8 k a b (omega arith) same)
+    (same-field 8 8 k a b (omega arith) same)
+    (same-field 16 8 k a b (omega arith) same)
+    (same-field 24 2 k a b (omega arith) same)
+    (same-field 26 2 k a b (omega arith) same)
+    (ap (λ (n : ℕ). take n (drop 32 b)) (same-field 28 2 k a b (omega arith) same) ∙ same-part 32 (field 28 2 a) k a b (omega arith) same)
+
+-- What is found at a place: what a good sector says, and bad else.
+pub found-good : (places place : ℕ) (b : List ℕ) → Good places place b → found places place b ≡ reads-as b
+unfolding found
+found-good places place b g = cond-true (good? places place b) (reads-as b) bad (yes-good places place b g)
+
+pub found-bad : (places place : ℕ) (b : List ℕ) → (Good places place b → ⊥) → found places place b ≡ bad
+unfolding found
+found-bad places place b none =
+    ⊎-elim
+    (λ yes-it. absurd (none (good-yes places place b yes-it)))
+    (λ not-it. cond-false (good? places place b) (reads-as b) bad not-it)
+    (cases-bool (good? places place b))
+
+-- A sector is good or not,
+pub good-or-not : (places place : ℕ) (b : List ℕ) → Good places place b ⊎ (Good places place b → ⊥)
+good-or-not places place b =
+    ⊎-elim
+    (λ yes-it. inl (good-yes places place b yes-it))
+    (λ not-it. inr (λ g. both-ways (good? places place b) not-it (yes-good places place b g)))
+    (cases-bool (good? places place b))
+
+-- and it is good just where what is found has a kind.
+pub kind-good : (places place : ℕ) (b : List ℕ) → 1 ≤ found places place b .kind → Good places place b
+kind-good places place b h =
+    ⊎-elim
+    (λ g. g)
+    (λ none. let kind : found places place b .kind ≡ 0 = ap (λ (e : Entry). e .kind) (found-bad places place b none) in absurd (omega arith))
+    (good-or-not places place b)
+
+-- What is found is bad, or may stand there.
+pub found-cases : (places place : ℕ) (b : List ℕ) → (found places place b ≡ bad) ⊎ Sound places place (found places place b)
+found-cases places place b =
+    ⊎-elim
+    (λ g. inr (subst (λ (e : Entry). Sound places place e) (sym (found-good places place b g)) (good-sound places place b g)))
+    (λ none. inl (found-bad places place b none))
+    (good-or-not places place b)
+
+-- A record laid out is found, and nothing among zeros.
+pub found-laid-out : (places place : ℕ) (e : Entry) → Sound places place e → found places place (laid-out e) ≡ e
+found-laid-out places place e sound = found-good places place (laid-out e) (laid-out-good places place e sound) ∙ laid-out-reads places place e sound
+
+pub found-zeros : (places place : ℕ) → found places place (replicate 128 0) ≡ bad
+found-zeros places place = found-bad places place (replicate 128 0) (zeros-bad places place)
+
+-- A reading answers what is found.
+pub read-found : (places place : ℕ) (b : List ℕ) (r : Option Record) → Answered places place b r → Told b r → seen r ≡ found places place b
+read-found places place b (Some x) good told = told ∙ sym (found-good places place b good)
+read-found places place b None bad-there told = sym (found-bad places place b bad-there)

@@ -1,4 +1,5 @@
 -- Lemmas on numbers in bytes, and what is known of a log's records.
 mod Numbers
 mod Again
+mod Finding
 pub mod Laws
