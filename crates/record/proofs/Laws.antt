@@ -11,12 +11,24 @@ use Rattle.std.proofs.shelf.Tests.{cases-lt, cases-bool, both-ways, cond-true, 
 use Rattle.std.specs.declared.option.Option.{Option}
 use Rattle.std.specs.declared.option.Option.the-variants.{Some, None}
 use Rattle.record.specs.declared.Record.{Record}
+use Rattle.record.specs.declared.Record.the-variants.{Part, Page, Mark}
 use Rattle.record.specs.Fields.{value, digits, field}
-use Rattle.record.specs.Entry.{Entry, laid-out, reads-as}
+use Rattle.record.specs.Entry.{Entry, entry, laid-out, reads-as}
 use Rattle.record.specs.Good.{Placed, Fits, Good, Sound, Answered, Told}
 use Rattle.record.specs.Found.{bad, found, seen, good?}
+use Rattle.record.proofs.Bytes.{laid-out-bytes}
 use Rattle.record.proofs.Finding.{good-yes, yes-good}
 use Rattle.record.proofs.Again.{serial-back, low-back, ordinal-back, page-back, offset-back, size-back, kind-back, blank-back, rest-back}
+
+-- Kinds: a bad entry has kind 0, a record 1 to 4.
+pub bad-kind : bad .kind ≡ 0
+bad-kind = refl
+
+pub entry-kind : (r : Record) → (1 ≤ entry r .kind) × (entry r .kind ≤ 4)
+entry-kind (Part head page offset true bytes) = (omega arith, omega arith)
+entry-kind (Part head page offset false bytes) = (omega arith, omega arith)
+entry-kind (Page head page bytes) = (omega arith, omega arith)
+entry-kind (Mark head) = (omega arith, omega arith)
 
 -- no record has more than 96 bytes
 pub fits-size : (k p o n : ℕ) → Fits k p o n → n ≤ 96
@@ -43,6 +55,9 @@ long e small =
 
 pub laid-out-length : (places place : ℕ) (e : Entry) → Sound places place e → length (laid-out e) ≡ 128
 laid-out-length places place e sound = long e (fits-size (e .kind) (e .page) (e .offset) (length (e .bytes)) (sound .fits))
+
+pub laid-out-byte : (places place : ℕ) (e : Entry) → Sound places place e → ((i : ℕ) → getD (e .bytes) i 0 < 256) → (i : ℕ) → getD (laid-out e) i 0 < 256
+laid-out-byte places place e sound bytes = let kind = sound .fits .known in laid-out-bytes e (omega arith) bytes
 
 -- equal numbers keep the same rules
 placed-same : (places place s l o s′ l′ o′ : ℕ) → s′ ≡ s → l′ ≡ l → o′ ≡ o → Placed places place s l o → Placed places place s′ l′ o′

@@ -1,7 +1,7 @@
 -- What holds of every log.
-use Prim.Native.Nat.{ℕ, _+_, _≤_, _<_}
+use Prim.Native.Nat.{ℕ, _+_, _-_, _%_, _^_}
 use mathlib.Core.Path.{_≡_}
-use mathlib.Core.List.{List}
+use mathlib.Core.List.{List, [], _∷_}
 use lib.ListN.{length, take, replicate}
 use Rattle.record.specs.Fields.{field}
 use Rattle.record.specs.Entry.{Entry, laid-out, reads-as}
@@ -30,3 +30,10 @@ Rest-ignored =
 pub record Finds (places place : ℕ) (sector : List ℕ) : Type 0 where
   pub good : Good places place sector → found places place sector ≡ reads-as sector
   pub else : (Good places place sector → ⊥) → found places place sector ≡ bad
+
+-- Records at the ends of every range: the greatest serial and ordinal, the farthest low, the last byte
+-- of the last page; the least mark; a whole page.
+pub record Edges (places : ℕ) : Type 0 where
+  pub greatest : Sound places ((2 ^ 63 - 1) % places) record { kind = 2; serial = 2 ^ 63 - 1; low = 2 ^ 63 - places; ordinal = 2 ^ 63 - 2; page = 63; offset = 95; bytes = 255 ∷ [] }
+  pub least : Sound places (1 % places) record { kind = 4; serial = 1; low = 1; ordinal = 0; page = 0; offset = 0; bytes = [] }
+  pub page : Sound places (1 % places) record { kind = 3; serial = 1; low = 1; ordinal = 0; page = 0; offset = 0; bytes = replicate 96 255 }

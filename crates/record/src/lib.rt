@@ -9,6 +9,7 @@ ghost use mathlib.Core.Path.{_≡_};
 mod fields;
 mod label;
 mod layout;
+pub mod theorems;
 
 use label::Label;
 use label::fits;
