@@ -45,7 +45,6 @@ fits-page k p o n f =
     (λ (h : 4 ≤ k). let mark = f .mark (omega arith) in (omega arith, omega arith))
     (cases-lt k 4)
 
-
 -- A record's sector has 128 bytes.
 long : (e : Entry) → length (e .bytes) ≤ 96 → length (laid-out e) ≡ 128
 unfolding laid-out digits

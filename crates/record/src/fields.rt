@@ -8,7 +8,14 @@ pub fn long(bytes: &[u8]) -> u64
     ensures { λ r. ⌜ r ≡ value (now (bytes .entry)) ⌝ }
 {
     u64::from_le_bytes([
-        bytes[0], bytes[1], bytes[2], bytes[3], bytes[4], bytes[5], bytes[6], bytes[7],
+        bytes[0],
+        bytes[1],
+        bytes[2],
+        bytes[3],
+        bytes[4],
+        bytes[5],
+        bytes[6],
+        bytes[7],
     ])
 }
 
