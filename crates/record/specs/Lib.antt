@@ -3,3 +3,5 @@ pub mod Fields
 pub mod Entry
 pub mod Good
 pub mod Label
+pub mod Found
+pub mod Theorems

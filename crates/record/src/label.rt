@@ -9,14 +9,24 @@ use crate::Head;
 use crate::fields::long;
 use crate::fields::short;
 
-// The number of bytes in a page, and the most that a sector has room for.
-pub const PAGE: usize = 96;
+// The kinds: a part of a transaction with more parts to come, its last part, a whole page, a mark.
+pub const MORE: u8 = 1;
+
+pub const LAST: u8 = 2;
+
+pub const WHOLE: u8 = 3;
+
+pub const MARK: u8 = 4;
+
+// The number of bytes in a page, and all that a sector has room for.
+const PAGE: usize = 96;
 
 const PAGES: u16 = 64;
 
-// Serials end where the sign of a 64-bit number would begin.
+// Serials stay below this, so that one more never wraps.
 const SERIALS: u64 = 0x8000_0000_0000_0000;
 
+// Everything in a sector but the record's bytes.
 #[derive(Clone, Copy)]
 pub struct Label {
     pub head: Head,
@@ -65,6 +75,7 @@ fn within(page: u16, offset: u16, length: usize) -> bool
     ensures all { λ r. ⌜ (page < 64 → 1 ≤ length → offset + length ≤ 96 → T r) ⌝ }
 {
     let offset = offset as usize;
+    // The two tests on the offset, since a sum with a length that is not known yet could wrap.
     page < PAGES && 1 <= length && offset <= PAGE && length <= PAGE - offset
 }
 
@@ -74,9 +85,9 @@ pub fn fits(kind: u8, page: u16, offset: u16, length: usize) -> bool
     ensures all { λ r. ⌜ (Fits kind page offset length → T r) ⌝ }
 {
     match kind {
-        1 | 2 => within(page, offset, length),
-        3 => within(page, offset, length) && length == PAGE,
-        4 => page == 0 && offset == 0 && length == 0,
+        MORE | LAST => within(page, offset, length),
+        WHOLE => within(page, offset, length) && length == PAGE,
+        MARK => page == 0 && offset == 0 && length == 0,
         _ => false,
     }
 }

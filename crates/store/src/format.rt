@@ -24,7 +24,7 @@ pub fn zero_all<D: Device>(device: &mut D, sectors: usize) -> Result<(), DeviceF
     Ok(())
 }
 
-fn serial_of(record: &Record) -> u64
+pub fn serial_of(record: &Record) -> u64
     ensures { λ r. ⌜ r ≡ entry (now («record» .entry)) .serial ⌝ }
 {
     match *record {

@@ -1,6 +1,7 @@
 // Reading the sectors of a device into memory.
 ghost use Prim.Native.Nat.{ℕ, _≤_, _<_, _+_, _*_, _%_};
-ghost use Rattle.journal.specs.Log.{log};
+ghost use Rattle.device.specs.Disk.{holds};
+ghost use Rattle.journal.specs.Log.{log, said, if-serial};
 ghost use Rattle.journal.specs.Memory.{overlaid, applied, place-of};
 ghost use Rattle.record.specs.Entry.{entry};
 ghost use Rattle.store.specs.Reading.{Looks, Fetched, Home-loaded, Homes-loaded};
@@ -9,6 +10,7 @@ ghost use mathlib.Core.Bool.{Bool};
 ghost use mathlib.Core.Path.{_≡_};
 use device::Device;
 use device::DeviceFault;
+use crate::format::serial_of;
 use record::Record;
 
 // Reads a sector; false where it is spoiled, and then the buffer is as it was.
@@ -83,5 +85,34 @@ fn apply(record: &Record, memory: &mut [u8])
         } => put_bytes(memory, page as usize * 96 + offset as usize, bytes),
         Record::Page { page, bytes, .. } => put_bytes(memory, page as usize * 96, bytes),
         Record::Mark { .. } => {}
+    }
+}
+
+// Applies the record with this serial, where the log has it.
+fn replay_one<D: Device>(device: &mut D, places: usize, serial: u64, memory: &mut [u8]) -> Result<(), DeviceFault>
+    requires some { ⌜ 1 ≤ places ⌝ }
+    requires few { ⌜ places ≤ 1024 ⌝ }
+    requires room { ⌜ places ≤ D·Device .disk (now device) .plate .sectors ⌝ }
+    requires whole { ⌜ length (now memory) ≡ 6144 ⌝ }
+    ensures { λ r. ⌜ Looks (D·Device .disk (now (device .entry))) (λ _. (i : ℕ) → getD (now (memory .exit)) i 0 ≡ applied (log places (D·Device .disk (now (device .entry)) .shows) serial) i (getD (now (memory .entry)) i 0)) r (D·Device .disk (now (device .exit))) ⌝ }
+{
+    let mut sector = [0u8; 128];
+    let place = (serial % places as u64) as usize;
+    if !fetch(device, place, &mut sector)? {
+        return Ok(());
+    }
+    apply_serial(&sector, place, places, serial, memory);
+    Ok(())
+}
+
+// Applies the record in a sector, where it has this serial.
+fn apply_serial(sector: &[u8], place: usize, places: usize, serial: u64, memory: &mut [u8])
+    requires { ⌜ length (now memory) ≡ 6144 ⌝ }
+    ensures { λ _. ⌜ ((i : ℕ) → getD (now (memory .exit)) i 0 ≡ applied (if-serial serial (said places place (holds (now (sector .entry))))) i (getD (now (memory .entry)) i 0)) ⌝ }
+{
+    if let Some(record) = record::read(sector, place, places) {
+        if serial_of(&record) == serial {
+            apply(&record, memory);
+        }
     }
 }
