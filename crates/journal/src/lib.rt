@@ -3,6 +3,7 @@ ghost use Rattle.journal.specs.Opening.{Determined};
 
 mod note;
 
+pub use note::BLANK;
 pub use note::Kind;
 pub use note::Note;
 pub use note::look_at;

@@ -24,27 +24,27 @@ fetched-told d s before sector false (h, e) = ((λ _. refl), (λ _. h))
 
 pub home-loaded : (d : Disk) (n p : ℕ) (before after sector bytes : List ℕ) (readable : Bool) → Fetched d (n + p) (replicate 128 0) sector readable → length bytes ≡ 96 → ((j : ℕ) → j < 96 → getD bytes j 0 ≡ getD sector j 0) → ((i : ℕ) → getD after i 0 ≡ overlaid (p * 96) bytes i (getD before i 0)) → Home-loaded d n p before after readable
 home-loaded d n p before after sector bytes readable fetched long same put =
-    record
-    { bytes =
-        λ i.
-        ⊎-elim
-        (λ e.
-        let t = eq-eqb (i / 96) p e in
-        rw t
-        (put i
-        ∙ overlaid-within (p * 96) bytes i (getD before i 0) (omega arith) (omega arith)
-        ∙ same (i - p * 96) (omega arith)
-        ∙ ap (λ (j : ℕ). getD sector j 0) (omega arith)
-        ∙ fetched-byte d (n + p) sector readable fetched (i % 96) (omega arith)
-        ∙ ap (λ (q : ℕ). byte-of (d .shows (n + q)) (i % 96)) (sym e)))
-        (λ ne.
-        let t = ne-eqb (i / 96) p ne in
-        rw t
-        (put i
-        ∙ ⊎-elim
-        (λ h. overlaid-below (p * 96) bytes i (getD before i 0) h)
-        (λ h. ⊎-elim (λ k. absurd (ne (omega arith))) (λ k. overlaid-above (p * 96) bytes i (getD before i 0) h (omega arith)) (cases-lt i (p * 96 + 96)))
-        (cases-lt i (p * 96))))
-        (cases-eq (i / 96) p)
-    ; told = fetched-told d (n + p) (replicate 128 0) sector readable fetched
+    record {
+      bytes =
+          λ i.
+          ⊎-elim
+          (λ e.
+          let t = eq-eqb (i / 96) p e in
+          rw t
+          (put i
+          ∙ overlaid-within (p * 96) bytes i (getD before i 0) (omega arith) (omega arith)
+          ∙ same (i - p * 96) (omega arith)
+          ∙ ap (λ (j : ℕ). getD sector j 0) (omega arith)
+          ∙ fetched-byte d (n + p) sector readable fetched (i % 96) (omega arith)
+          ∙ ap (λ (q : ℕ). byte-of (d .shows (n + q)) (i % 96)) (sym e)))
+          (λ ne.
+          let t = ne-eqb (i / 96) p ne in
+          rw t
+          (put i
+          ∙ ⊎-elim
+          (λ h. overlaid-below (p * 96) bytes i (getD before i 0) h)
+          (λ h. ⊎-elim (λ k. absurd (ne (omega arith))) (λ k. overlaid-above (p * 96) bytes i (getD before i 0) h (omega arith)) (cases-lt i (p * 96 + 96)))
+          (cases-lt i (p * 96))))
+          (cases-eq (i / 96) p);
+      told = fetched-told d (n + p) (replicate 128 0) sector readable fetched;
     }

@@ -1,3 +1,4 @@
 -- Lemmas on the store.
 pub mod Zeroing
 pub mod Homes
+pub mod Replaying

@@ -1,20 +1,28 @@
 // Reading the sectors of a device into memory.
-ghost use Prim.Native.Nat.{ℕ, _≤_, _<_, _+_, _*_, _%_};
+ghost use Prim.Native.Nat.{ℕ, _≤_, _<_, _+_, _*_, _%_, _-_, _^_};
 ghost use Rattle.device.specs.Disk.{holds};
 ghost use Rattle.journal.specs.Log.{log, said, if-serial};
-ghost use Rattle.journal.specs.Memory.{overlaid, applied, place-of};
+ghost use Rattle.journal.specs.Memory.{overlaid, applied, place-of, replayed};
+ghost use Rattle.journal.specs.Notes.{Notes, Noted};
 ghost use Rattle.record.specs.Entry.{entry};
 ghost use Rattle.store.specs.Reading.{Looks, Fetched, Home-loaded, Homes-loaded};
 ghost use lib.ListN.{length, getD};
 ghost use mathlib.Core.Bool.{Bool};
 ghost use mathlib.Core.Path.{_≡_};
+use crate::format::serial_of;
 use device::Device;
 use device::DeviceFault;
-use crate::format::serial_of;
+use journal::BLANK;
+use journal::Note;
+use journal::look_at;
 use record::Record;
 
 // Reads a sector; false where it is spoiled, and then the buffer is as it was.
-pub fn fetch<D: Device>(device: &mut D, sector: usize, buffer: &mut [u8]) -> Result<bool, DeviceFault>
+pub fn fetch<D: Device>(
+    device: &mut D,
+    sector: usize,
+    buffer: &mut [u8],
+) -> Result<bool, DeviceFault>
     requires there { ⌜ sector < D·Device .disk (now device) .plate .sectors ⌝ }
     requires whole { ⌜ length (now buffer) ≡ 128 ⌝ }
     ensures { λ r. ⌜ Looks (D·Device .disk (now (device .entry))) (Fetched (D·Device .disk (now (device .entry))) sector (now (buffer .entry)) (now (buffer .exit))) r (D·Device .disk (now (device .exit))) ⌝ }
@@ -35,7 +43,12 @@ pub fn put_bytes(memory: &mut [u8], place: usize, bytes: &[u8])
 }
 
 // Starts a page from its home; false where that is spoiled, and then from zeros.
-fn load_home<D: Device>(device: &mut D, places: usize, page: usize, memory: &mut [u8]) -> Result<bool, DeviceFault>
+fn load_home<D: Device>(
+    device: &mut D,
+    places: usize,
+    page: usize,
+    memory: &mut [u8],
+) -> Result<bool, DeviceFault>
     requires page { ⌜ page < 64 ⌝ }
     requires few { ⌜ places ≤ 1024 ⌝ }
     requires room { ⌜ places + 64 ≤ D·Device .disk (now device) .plate .sectors ⌝ }
@@ -89,7 +102,12 @@ fn apply(record: &Record, memory: &mut [u8])
 }
 
 // Applies the record with this serial, where the log has it.
-fn replay_one<D: Device>(device: &mut D, places: usize, serial: u64, memory: &mut [u8]) -> Result<(), DeviceFault>
+fn replay_one<D: Device>(
+    device: &mut D,
+    places: usize,
+    serial: u64,
+    memory: &mut [u8],
+) -> Result<(), DeviceFault>
     requires some { ⌜ 1 ≤ places ⌝ }
     requires few { ⌜ places ≤ 1024 ⌝ }
     requires room { ⌜ places ≤ D·Device .disk (now device) .plate .sectors ⌝ }
@@ -115,4 +133,50 @@ fn apply_serial(sector: &[u8], place: usize, places: usize, serial: u64, memory:
             apply(&record, memory);
         }
     }
+}
+
+// Applies the records from `low` to `last` in their order.
+pub fn replay<D: Device>(
+    device: &mut D,
+    places: usize,
+    low: u64,
+    last: u64,
+    memory: &mut [u8],
+) -> Result<(), DeviceFault>
+    requires some { ⌜ 1 ≤ places ⌝ }
+    requires few { ⌜ places ≤ 1024 ⌝ }
+    requires room { ⌜ places ≤ D·Device .disk (now device) .plate .sectors ⌝ }
+    requires whole { ⌜ length (now memory) ≡ 6144 ⌝ }
+    requires forward { ⌜ low ≤ last ⌝ ∗ ⌜ last < 2 ^ 63 ⌝ }
+    ensures { λ r. ⌜ Looks (D·Device .disk (now (device .entry))) (λ _. (i : ℕ) → getD (now (memory .exit)) i 0 ≡ replayed (log places (D·Device .disk (now (device .entry)) .shows)) low (last + 1 - low) (λ j. getD (now (memory .entry)) j 0) i) r (D·Device .disk (now (device .exit))) ⌝ }
+{
+    for serial in low..last + 1 {
+        replay_one(device, places, serial, memory)?;
+    }
+    Ok(())
+}
+
+// The note of the sector at this place of the log.
+fn look<D: Device>(device: &mut D, place: usize, places: usize) -> Result<Note, DeviceFault>
+    requires { ⌜ place < D·Device .disk (now device) .plate .sectors ⌝ }
+    ensures { λ r. ⌜ Looks (D·Device .disk (now (device .entry))) (Notes (said places place (D·Device .disk (now (device .entry)) .shows place))) r (D·Device .disk (now (device .exit))) ⌝ }
+{
+    let mut sector = [0u8; 128];
+    if fetch(device, place, &mut sector)? {
+        Ok(look_at(&sector, place, places))
+    } else {
+        Ok(BLANK)
+    }
+}
+
+// Notes what each sector of the log says.
+pub fn scan<D: Device>(device: &mut D, notes: &mut [Note]) -> Result<(), DeviceFault>
+    requires { ⌜ length (now notes) ≤ D·Device .disk (now device) .plate .sectors ⌝ }
+    ensures { λ r. ⌜ Looks (D·Device .disk (now (device .entry))) (λ _. Noted (length (now (notes .exit))) (D·Device .disk (now (device .entry)) .shows) (now (notes .exit))) r (D·Device .disk (now (device .exit))) ⌝ }
+{
+    let places = notes.len();
+    for place in 0..places {
+        notes[place] = look(device, place, places)?;
+    }
+    Ok(())
 }

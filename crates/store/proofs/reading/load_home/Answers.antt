@@ -13,7 +13,7 @@ returns g c =
     let f = c .in-Continue-readable .ensures tt in
     let sector = c .fetch .last .buffer in
     let long : length (take 96 sector) ≡ 96 = search (needs, places) in
-    let same : (j : ℕ) → j < 96 → getD (take 96 sector) j 0 ≡ getD sector j 0 = λ j h. search (needs, places) in
-    ( f .0
-    , home-loaded (g .D·Device .disk (c .args .device .now)) (c .args .places) (c .args .page) (c .args .memory .now) (c .put-bytes .last .memory) sector (take 96 sector) (c .in-Continue-readable .readable) (f .1) long same (c .put-bytes .ensures)
+    let same : (j : ℕ) → j < 96 → getD (take 96 sector) j 0 ≡ getD sector j 0 = λ j h. search (needs, places) in (
+      f .0,
+      home-loaded (g .D·Device .disk (c .args .device .now)) (c .args .places) (c .args .page) (c .args .memory .now) (c .put-bytes .last .memory) sector (take 96 sector) (c .in-Continue-readable .readable) (f .1) long same (c .put-bytes .ensures),
     )
