@@ -2,3 +2,4 @@
 pub mod Zeroing
 pub mod Homes
 pub mod Replaying
+pub mod Strays

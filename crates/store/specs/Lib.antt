@@ -2,3 +2,4 @@
 pub mod Fault
 pub mod Format
 pub mod Reading
+pub mod Clearing

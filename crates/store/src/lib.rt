@@ -1,4 +1,5 @@
 // A recoverable store over any device: its log, its memory, and what an opening makes of them.
+mod clearing;
 mod fault;
 mod format;
 mod reading;
