@@ -1,3 +1,5 @@
 -- Lemmas on the log.
 pub mod Places
+mod Steps
+pub mod Telling
 pub mod Unique
