@@ -1,16 +1,15 @@
 -- What is known of the record at a place of the log, and of the record with a serial.
 use Prim.Native.Nat.{ℕ, zero, suc, _+_, _-_, _%_, _^_, _≤_, _<_}
 use mathlib.Core.Path.{_≡_, refl, sym, ap, subst, _∙_}
-use mathlib.Core.Bool.{true, false}
 use mathlib.Core.Logic.{_⊎_, inl, inr, ⊎-elim}
-use mathlib.Core.List.{List, []}
+use mathlib.Core.List.{List}
 use native.Mathlib.Nat.{mod-lt}
 use native.Mathlib.Omega.{arith}
 use lib.Dec.{eqb}
 use lib.ListN.{length, take, drop, getD, replicate, length-take, length-drop}
-use Rattle.std.proofs.shelf.Tests.{cases-lt, cases-eq, cases-bool, eqb-true, eq-eqb, cond-true, cond-false}
+use Rattle.std.proofs.shelf.Tests.{cases-lt, cases-bool, eqb-true, eq-eqb, cond-true, cond-false}
 use Rattle.device.specs.Disk.{Shown, spoiled, holds}
-use Rattle.record.specs.Entry.{Entry, entry, reads-as}
+use Rattle.record.specs.Entry.{Entry, reads-as}
 use Rattle.record.specs.Fields.{field}
 use Rattle.record.specs.Good.{Fits, Good, Sound, Answered, Told}
 use Rattle.record.specs.declared.Record.{Record}
@@ -18,7 +17,7 @@ use Rattle.std.specs.declared.option.Option.{Option}
 use Rattle.std.specs.declared.option.Option.the-variants.{Some, None}
 use Rattle.journal.specs.Decide.{Decided, good}
 use Rattle.journal.specs.Log.{nothing, if-good, said, if-serial, log}
-use Rattle.journal.specs.Notes.{Notes, found-entry}
+use Rattle.journal.specs.Notes.{found-entry}
 use Rattle.journal.specs.Opening.{Here}
 
 -- a sector that is good says what it reads as, and any other says nothing
@@ -78,6 +77,17 @@ sound-if n p bytes (inr _) h = absurd (omega arith)
 pub sound : (n p : ℕ) (x : Shown) → 1 ≤ said n p x .kind → Sound n p (said n p x)
 sound n p spoiled h = absurd (omega arith)
 sound n p (holds bytes) h = sound-if n p bytes (good n p bytes) h
+
+-- a place holds a record, or says nothing
+
+kind-if : (n p : ℕ) (bytes : List ℕ) (d : Decided (Good n p bytes)) → (if-good d (reads-as bytes) ≡ nothing) ⊎ (1 ≤ if-good d (reads-as bytes) .kind)
+unfolding reads-as
+kind-if n p bytes (inl g) = inr (g .fits .known .0)
+kind-if n p bytes (inr _) = inl refl
+
+pub cases-said : (n p : ℕ) (x : Shown) → (said n p x ≡ nothing) ⊎ (1 ≤ said n p x .kind)
+cases-said n p spoiled = inl refl
+cases-said n p (holds bytes) = kind-if n p bytes (good n p bytes)
 
 -- a log with no places holds nothing
 pub no-places : (p : ℕ) (x : Shown) → said 0 p x ≡ nothing

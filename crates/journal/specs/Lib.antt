@@ -4,3 +4,4 @@ pub mod Log
 pub mod Memory
 pub mod Notes
 pub mod Opening
+pub mod Survey

@@ -2,12 +2,16 @@
 ghost use Rattle.journal.specs.Opening.{Determined};
 
 mod note;
+mod survey;
 
 pub use note::BLANK;
 pub use note::Kind;
 pub use note::Note;
 pub use note::look_at;
 pub use note::note_of;
+pub use survey::LogFault;
+pub use survey::Survey;
+pub use survey::survey_of;
 
 // Names the theorem that what an opening finds is determined by what the sectors show.
 pub fn finding_is_determined()
