@@ -2,6 +2,8 @@
 use Prim.Native.Nat.{ℕ}
 use mathlib.Core.List.{List, [], _∷_}
 use Rattle.device.specs.Fault as device
+use Rattle.journal.specs.declared.survey.LogFault.{LogFault}
+use Rattle.journal.specs.declared.survey.LogFault.the-variants as log
 use Rattle.store.specs.declared.fault.StoreFault.{StoreFault}
 use Rattle.store.specs.declared.fault.StoreFault.the-variants.{Device, Size, NoLog, NoMark, Uncovered}
 
@@ -18,3 +20,8 @@ values (Size count) = count ∷ []
 values NoLog = []
 values (NoMark low) = low ∷ []
 values (Uncovered page) = page ∷ []
+
+-- What a survey of the log refuses, as a refusal of the store.
+abbrev pub from-log : LogFault → StoreFault
+from-log log.NoLog = NoLog
+from-log (log.NoMark low) = NoMark low

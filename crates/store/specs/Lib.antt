@@ -3,3 +3,4 @@ pub mod Fault
 pub mod Format
 pub mod Reading
 pub mod Clearing
+pub mod Opening

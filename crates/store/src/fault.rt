@@ -1,8 +1,9 @@
 // Why a store says no. It holds the device's fault whole.
-ghost use Rattle.store.specs.Fault.{number};
+ghost use Rattle.store.specs.Fault.{number, from-log};
 ghost use Rattle.store.specs.declared.fault.StoreFault.the-variants.{Device};
 ghost use mathlib.Core.Path.{_≡_};
 use device::DeviceFault;
+use journal::LogFault;
 
 #[derive(Clone, Copy)]
 pub enum StoreFault {
@@ -23,6 +24,17 @@ pub impl From<DeviceFault> for StoreFault as DeviceStoreFault {
 
     fn from(fault: DeviceFault) -> Self {
         StoreFault::Device(fault)
+    }
+}
+
+pub impl From<LogFault> for StoreFault as LogStoreFault {
+    ghost converts = { λ f r. r ≡ from-log f };
+
+    fn from(fault: LogFault) -> Self {
+        match fault {
+            LogFault::NoLog => StoreFault::NoLog,
+            LogFault::NoMark(low) => StoreFault::NoMark(low),
+        }
     }
 }
 

@@ -2,7 +2,9 @@
 mod clearing;
 mod fault;
 mod format;
+mod opening;
 mod reading;
 
 pub use fault::DeviceStoreFault;
+pub use fault::LogStoreFault;
 pub use fault::StoreFault;

@@ -1,0 +1,66 @@
+-- From the steps of an opening to what it finds.
+use Prim.Native.Nat.{ℕ, zero, suc, _+_, _-_, _<_, _≤_, _^_}
+use mathlib.Core.Path.{_≡_, refl, sym, ap, subst, _∙_}
+use mathlib.Core.Bool.{Bool, true, false}
+use mathlib.Core.Logic.{_⊎_, inl, inr}
+use mathlib.Core.List.{List}
+use native.Mathlib.Omega.{arith}
+use lib.ListN.{length, getD}
+use Rattle.std.specs.declared.option.Option.the-variants.{Some, None}
+use Rattle.std.specs.declared.result.Result.the-variants.{Ok, Err}
+use Rattle.device.specs.Disk.{Disk, Shown, spoiled}
+use Rattle.record.specs.Entry.{Entry}
+use Rattle.journal.specs.declared.survey.Survey.{Survey}
+use Rattle.journal.specs.declared.survey.LogFault.{LogFault}
+use Rattle.journal.specs.declared.survey.LogFault.the-variants.{NoLog, NoMark}
+use Rattle.journal.specs.Log.{log}
+use Rattle.journal.specs.Memory.{applied, replayed, from-home}
+use Rattle.journal.specs.Opening.{Here, Runs, Usable, Remembers, Uncovered}
+use Rattle.journal.specs.Survey.{Surveyed, Surveys}
+use Rattle.journal.proofs.Places.{Kept, kept}
+use Rattle.store.specs.Fault.{from-log}
+use Rattle.store.specs.Reading.{Homes-loaded}
+use Rattle.store.specs.Opening.{Sees, Rebuilt}
+
+-- a survey that found no log is a refusal of the store
+pub no-survey : {A : Type 0} (n : ℕ) (d e : Disk) (found : A → Type 0) (f : LogFault) → e ≡ d → Surveys n (d .shows) (Err f) → Sees n d found (Err (from-log f)) e
+no-survey n d e found NoLog same h = (same, h)
+no-survey n d e found (NoMark low) same h = (same, h)
+
+not-both : (b : Bool) → b ≡ true → b ≡ false → ⊥
+not-both b t f = let z : _≡_ {A = ℕ} 0 1 = cc in omega arith
+
+-- a home that is spoiled, and the survey covers its page nowhere
+pub bare-home : (n : ℕ) (d : Disk) (s : Survey) (after : List ℕ) (page : ℕ) → Surveyed n (d .shows) s → Homes-loaded d n (s .covered) after (Some page) → Uncovered n (d .shows) page
+bare-home n d s after page seen (small, gone, uncovered, lower) =
+    record {
+      low = s .low;
+      c = s .last;
+      names = seen .names;
+      mark = seen .mark;
+      run = seen .run;
+      page = small;
+      gone = gone;
+      bare = λ h. not-both (getD (s .covered) page false) (seen .all page small h) uncovered;
+      lowest = λ q lt lost. seen .only q (omega arith) (lower q lt lost);
+    }
+
+-- a byte that is replayed depends on what it was before and on nothing else
+replayed-base : (log : ℕ → Entry) (low k : ℕ) (base base′ : ℕ → ℕ) (i : ℕ) → base i ≡ base′ i → replayed log low k base i ≡ replayed log low k base′ i
+unfolding replayed
+replayed-base log low zero base base′ i e = e
+replayed-base log low (suc k) base base′ i e = ap (λ (v : ℕ). applied (log (low + k)) i v) (replayed-base log low k base base′ i e)
+
+pub rebuilt : (n : ℕ) (d : Disk) (s : Survey) (homes memory : List ℕ) → Surveyed n (d .shows) s → Homes-loaded d n (s .covered) homes None → ((i : ℕ) → getD memory i 0 ≡ replayed (log n (d .shows)) (s .low) (s .last + 1 - s .low) (λ j. getD homes j 0) i) → Rebuilt n (d .shows) (s .low) (s .last) memory
+rebuilt n d s homes memory seen (loaded, covered) put =
+    record {
+      homes = λ p small gone. seen .only p small (covered p small gone);
+      bytes = λ i h. put i ∙ replayed-base (log n (d .shows)) (s .low) (s .last + 1 - s .low) (λ j. getD homes j 0) (from-home n (d .shows)) i (loaded i h);
+    }
+
+-- the serials of a log that was surveyed
+pub in-order : (n : ℕ) (shows : ℕ → Shown) (s : Survey) → Surveyed n shows s → (s .low ≤ s .last) × (s .last < 2 ^ 63)
+in-order n shows s seen =
+    let here : Here (log n shows) (s .last) = omega (arith, seen .run .ends) in
+    let k = kept n shows (s .last) here in
+    (seen .run .from, k .to)

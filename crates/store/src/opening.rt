@@ -1,0 +1,48 @@
+// Opening a store: what the log says, the memory that it makes, and the strays cleared.
+ghost use Prim.Native.Nat.{_≤_, _+_};
+ghost use Rattle.journal.specs.Notes.{Noted};
+ghost use Rattle.journal.specs.Survey.{Surveyed};
+ghost use Rattle.store.specs.Opening.{Sees, Rebuilt};
+ghost use lib.ListN.{length};
+ghost use mathlib.Core.Path.{_≡_};
+use crate::fault::DeviceStoreFault;
+use crate::fault::LogStoreFault;
+use crate::fault::StoreFault;
+use crate::reading::load_homes;
+use crate::reading::replay;
+use crate::reading::scan;
+use device::Device;
+use journal::Note;
+use journal::Survey;
+use journal::survey_of;
+
+// Notes what every sector of the log says, and surveys it.
+fn inspect<D: Device>(device: &mut D, notes: &mut [Note]) -> Result<Survey, StoreFault>
+    requires { ⌜ length (now notes) ≤ D·Device .disk (now device) .plate .sectors ⌝ }
+    ensures { λ r. ⌜ Sees (length (now (notes .exit))) (D·Device .disk (now (device .entry))) (λ s. Noted (length (now (notes .exit))) (D·Device .disk (now (device .entry)) .shows) (now (notes .exit)) × Surveyed (length (now (notes .exit))) (D·Device .disk (now (device .entry)) .shows) s) r (D·Device .disk (now (device .exit))) ⌝ }
+{
+    scan(device, notes)?;
+    let survey = survey_of(notes)?;
+    Ok(survey)
+}
+
+// Makes the memory from the homes and the records of a log that was surveyed.
+fn rebuild<D: Device>(
+    device: &mut D,
+    places: usize,
+    survey: &Survey,
+    memory: &mut [u8],
+) -> Result<(), StoreFault>
+    requires some { ⌜ 1 ≤ places ⌝ }
+    requires few { ⌜ places ≤ 1024 ⌝ }
+    requires room { ⌜ places + 64 ≤ D·Device .disk (now device) .plate .sectors ⌝ }
+    requires whole { ⌜ length (now memory) ≡ 6144 ⌝ }
+    requires seen { ⌜ Surveyed places (D·Device .disk (now device) .shows) (now survey) ⌝ }
+    ensures { λ r. ⌜ Sees places (D·Device .disk (now (device .entry))) (λ _. Rebuilt places (D·Device .disk (now (device .entry)) .shows) (now (survey .entry) .low) (now (survey .entry) .last) (now (memory .exit))) r (D·Device .disk (now (device .exit))) ⌝ }
+{
+    if let Some(page) = load_homes(device, places, &survey.covered, memory)? {
+        return Err(StoreFault::Uncovered(page));
+    }
+    replay(device, places, survey.low, survey.last, memory)?;
+    Ok(())
+}
