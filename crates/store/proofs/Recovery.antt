@@ -8,6 +8,8 @@ use native.Mathlib.Omega.{arith}
 use lib.ListN.{length, getD}
 use Rattle.std.specs.declared.option.Option.the-variants.{Some, None}
 use Rattle.std.specs.declared.result.Result.the-variants.{Ok, Err}
+use Rattle.device.specs.declared.fault.DeviceFault.{DeviceFault}
+use Rattle.device.specs.declared.fault.DeviceFault.the-variants.{Power, Misaddressed, Unfit, Spoiled}
 use Rattle.device.specs.Disk.{Disk, Shown, spoiled}
 use Rattle.record.specs.Entry.{Entry}
 use Rattle.journal.specs.declared.survey.Survey.{Survey}
@@ -15,12 +17,15 @@ use Rattle.journal.specs.declared.survey.LogFault.{LogFault}
 use Rattle.journal.specs.declared.survey.LogFault.the-variants.{NoLog, NoMark}
 use Rattle.journal.specs.Log.{log}
 use Rattle.journal.specs.Memory.{applied, replayed, from-home}
-use Rattle.journal.specs.Opening.{Here, Runs, Usable, Remembers, Uncovered}
+use Rattle.journal.specs.Opening.{Here, Runs, Usable, Remembers, Uncovered, Finds, strays}
 use Rattle.journal.specs.Survey.{Surveyed, Surveys}
 use Rattle.journal.proofs.Places.{Kept, kept}
 use Rattle.store.specs.Fault.{from-log}
 use Rattle.store.specs.Reading.{Homes-loaded}
-use Rattle.store.specs.Opening.{Sees, Rebuilt}
+use Rattle.store.specs.Clearing.{Yields, clearing}
+use Rattle.store.specs.Opening.{Sees, Rebuilt, Recovers}
+use Rattle.store.specs.declared.fault.StoreFault.{StoreFault}
+use Rattle.store.specs.declared.fault.StoreFault.the-variants as store
 
 -- a survey that found no log is a refusal of the store
 pub no-survey : {A : Type 0} (n : ℕ) (d e : Disk) (found : A → Type 0) (f : LogFault) → e ≡ d → Surveys n (d .shows) (Err f) → Sees n d found (Err (from-log f)) e
@@ -64,3 +69,34 @@ in-order n shows s seen =
     let here : Here (log n shows) (s .last) = omega (arith, seen .run .ends) in
     let k = kept n shows (s .last) here in
     (seen .run .from, k .to)
+
+-- a step that refuses, or that power cuts, is the end of the recovery
+pub sees-recovers : {A : Type 0} (n : ℕ) (d e : Disk) (found : A → Type 0) (memory : List ℕ) (f : StoreFault) → Sees n d found (Err f) e → Recovers n d (Err f) e memory
+sees-recovers n d e found memory (store.Device (Power o)) h = inl h
+sees-recovers n d e found memory (store.Device (Misaddressed s o)) h = absurd h
+sees-recovers n d e found memory (store.Device Unfit) h = absurd h
+sees-recovers n d e found memory (store.Device (Spoiled s o)) h = absurd h
+sees-recovers n d e found memory (store.Size count) h = h
+sees-recovers n d e found memory store.NoLog h = h
+sees-recovers n d e found memory (store.NoMark low) h = h
+sees-recovers n d e found memory (store.Uncovered page) h = h
+
+pub cut-recovers : (n : ℕ) (d e : Disk) (s : Survey) (answered : ℕ → Type 0) (memory : List ℕ) (f : DeviceFault) → Surveyed n (d .shows) s → Rebuilt n (d .shows) (s .low) (s .last) memory → Yields d (clearing n (d .shows) (s .last)) answered (Err f) e → Recovers n d (Err (store.Device f)) e memory
+cut-recovers n d e s answered memory (Power o) seen built h =
+    inr (record { low = s .low; c = s .last; names = seen .names; mark = seen .mark; run = seen .run; homes = built .homes; cut = h })
+cut-recovers n d e s answered memory (Misaddressed t o) seen built h = absurd h
+cut-recovers n d e s answered memory Unfit seen built h = absurd h
+cut-recovers n d e s answered memory (Spoiled t o) seen built h = absurd h
+
+pub found : (n : ℕ) (d : Disk) (s : Survey) (count : ℕ) (memory : List ℕ) → Surveyed n (d .shows) s → Rebuilt n (d .shows) (s .low) (s .last) memory → length memory ≡ 6144 → count ≡ strays n (d .shows) (s .last) n → Finds n (d .shows) (s .ordinal) count (s .low) (s .last) memory
+found n d s count memory seen built long counted =
+    record {
+      names = seen .names;
+      mark = seen .mark;
+      run = seen .run;
+      homes = built .homes;
+      number = seen .ordinal;
+      astray = counted;
+      bytes = long;
+      memory-is = built .bytes;
+    }

@@ -2,9 +2,10 @@
 ghost use Prim.Native.Nat.{_≤_, _+_};
 ghost use Rattle.journal.specs.Notes.{Noted};
 ghost use Rattle.journal.specs.Survey.{Surveyed};
-ghost use Rattle.store.specs.Opening.{Sees, Rebuilt};
+ghost use Rattle.store.specs.Opening.{Sees, Rebuilt, Recovers, Divided};
 ghost use lib.ListN.{length};
 ghost use mathlib.Core.Path.{_≡_};
+use crate::clearing::clear;
 use crate::fault::DeviceStoreFault;
 use crate::fault::LogStoreFault;
 use crate::fault::StoreFault;
@@ -45,4 +46,32 @@ fn rebuild<D: Device>(
     }
     replay(device, places, survey.low, survey.last, memory)?;
     Ok(())
+}
+
+// Recovers a log on a device that was just restarted. Answers the survey and how many strays were cleared.
+fn recover<D: Device>(
+    device: &mut D,
+    notes: &mut [Note],
+    memory: &mut [u8],
+) -> Result<(Survey, usize), StoreFault>
+    requires some { ⌜ 1 ≤ length (now notes) ⌝ }
+    requires few { ⌜ length (now notes) ≤ 1024 ⌝ }
+    requires room { ⌜ length (now notes) + 64 ≤ D·Device .disk (now device) .plate .sectors ⌝ }
+    requires whole { ⌜ length (now memory) ≡ 6144 ⌝ }
+    ensures { λ r. ⌜ Recovers (length (now (notes .entry))) (D·Device .disk (now (device .entry))) r (D·Device .disk (now (device .exit))) (now (memory .exit)) ⌝ }
+{
+    let survey = inspect(device, notes)?;
+    rebuild(device, notes.len(), &survey, memory)?;
+    let strays = clear(device, notes, survey.last)?;
+    Ok((survey, strays))
+}
+
+// How many sectors of a device are its log's, the last 64 being homes.
+pub fn places_of(sectors: usize) -> Result<usize, StoreFault>
+    ensures { λ r. ⌜ Divided sectors r ⌝ }
+{
+    if sectors < 224 || sectors > 1088 {
+        return Err(StoreFault::Size(sectors));
+    }
+    Ok(sectors - 64)
 }
