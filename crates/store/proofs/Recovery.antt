@@ -23,7 +23,8 @@ use Rattle.journal.proofs.Places.{Kept, kept}
 use Rattle.store.specs.Fault.{from-log}
 use Rattle.store.specs.Reading.{Homes-loaded}
 use Rattle.store.specs.Clearing.{Yields, clearing}
-use Rattle.store.specs.Opening.{Sees, Rebuilt, Recovers}
+use Rattle.store.specs.Opening.{Sees, Rebuilt, Recovers, Opens}
+use Rattle.store.specs.State.{Open-on}
 use Rattle.store.specs.declared.fault.StoreFault.{StoreFault}
 use Rattle.store.specs.declared.fault.StoreFault.the-variants as store
 
@@ -99,4 +100,24 @@ found n d s count memory seen built long counted =
       astray = counted;
       bytes = long;
       memory-is = built .bytes;
+    }
+
+not-err : {A : Type 0} (x : A) (f : StoreFault) → Ok x ≡ Err f → ⊥
+not-err x f e = let z : _≡_ {A = ℕ} 0 1 = cc in omega arith
+
+-- an opening that succeeded, and the store that is set on it
+pub opened : (d e : Disk) (s : Survey) (count : ℕ) (memory : List ℕ) (places sectors : ℕ) → sectors ≡ d .plate .sectors → places ≡ sectors - 64 → Opens d (Ok (s, count)) e memory → Open-on d (s .ordinal) count e (record { memory = memory; places = places; low = s .low; last = s .last; ordinal = s .ordinal; on = true })
+opened d e s count memory places sectors told cut (inl (k, err, _, _)) = absurd (not-err (s, count) (store.Size k) err)
+opened d e s count memory places sectors told cut (inr (n, divides, inl h)) = absurd h
+opened d e s count memory places sectors told cut (inr (n, divides, inr (m, restart, (finds, cleared)))) =
+    record {
+      places = n;
+      divides = divides;
+      restarted = m;
+      restart = restart;
+      finds = finds;
+      cleared = cleared;
+      on = refl;
+      log-of = omega (arith, divides .homes);
+      number = refl;
     }

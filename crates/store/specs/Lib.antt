@@ -4,3 +4,4 @@ pub mod Format
 pub mod Reading
 pub mod Clearing
 pub mod Opening
+pub mod State

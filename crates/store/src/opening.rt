@@ -2,7 +2,7 @@
 ghost use Prim.Native.Nat.{_≤_, _+_};
 ghost use Rattle.journal.specs.Notes.{Noted};
 ghost use Rattle.journal.specs.Survey.{Surveyed};
-ghost use Rattle.store.specs.Opening.{Sees, Rebuilt, Recovers, Divided};
+ghost use Rattle.store.specs.Opening.{Sees, Rebuilt, Recovers, Divided, Opens};
 ghost use lib.ListN.{length};
 ghost use mathlib.Core.Path.{_≡_};
 use crate::clearing::clear;
@@ -13,6 +13,7 @@ use crate::reading::load_homes;
 use crate::reading::replay;
 use crate::reading::scan;
 use device::Device;
+use journal::BLANK;
 use journal::Note;
 use journal::Survey;
 use journal::survey_of;
@@ -51,17 +52,19 @@ fn rebuild<D: Device>(
 // Recovers a log on a device that was just restarted. Answers the survey and how many strays were cleared.
 fn recover<D: Device>(
     device: &mut D,
+    places: usize,
     notes: &mut [Note],
     memory: &mut [u8],
 ) -> Result<(Survey, usize), StoreFault>
-    requires some { ⌜ 1 ≤ length (now notes) ⌝ }
-    requires few { ⌜ length (now notes) ≤ 1024 ⌝ }
-    requires room { ⌜ length (now notes) + 64 ≤ D·Device .disk (now device) .plate .sectors ⌝ }
+    requires sized { ⌜ length (now notes) ≡ places ⌝ }
+    requires some { ⌜ 1 ≤ places ⌝ }
+    requires few { ⌜ places ≤ 1024 ⌝ }
+    requires room { ⌜ places + 64 ≤ D·Device .disk (now device) .plate .sectors ⌝ }
     requires whole { ⌜ length (now memory) ≡ 6144 ⌝ }
-    ensures { λ r. ⌜ Recovers (length (now (notes .entry))) (D·Device .disk (now (device .entry))) r (D·Device .disk (now (device .exit))) (now (memory .exit)) ⌝ }
+    ensures { λ r. ⌜ Recovers places (D·Device .disk (now (device .entry))) r (D·Device .disk (now (device .exit))) (now (memory .exit)) ⌝ }
 {
     let survey = inspect(device, notes)?;
-    rebuild(device, notes.len(), &survey, memory)?;
+    rebuild(device, places, &survey, memory)?;
     let strays = clear(device, notes, survey.last)?;
     Ok((survey, strays))
 }
@@ -74,4 +77,33 @@ pub fn places_of(sectors: usize) -> Result<usize, StoreFault>
         return Err(StoreFault::Size(sectors));
     }
     Ok(sectors - 64)
+}
+
+// The same with room for the notes: a log has 1,024 sectors at most.
+fn recover_places<D: Device>(
+    device: &mut D,
+    places: usize,
+    memory: &mut [u8],
+) -> Result<(Survey, usize), StoreFault>
+    requires some { ⌜ 1 ≤ places ⌝ }
+    requires few { ⌜ places ≤ 1024 ⌝ }
+    requires room { ⌜ places + 64 ≤ D·Device .disk (now device) .plate .sectors ⌝ }
+    requires whole { ⌜ length (now memory) ≡ 6144 ⌝ }
+    ensures { λ r. ⌜ Recovers places (D·Device .disk (now (device .entry))) r (D·Device .disk (now (device .exit))) (now (memory .exit)) ⌝ }
+{
+    let mut notes = [BLANK; 1024];
+    recover(device, places, &mut notes[0..places], memory)
+}
+
+// Opens a device, on or off: restarts it, and recovers its log into the memory.
+pub fn open_device<D: Device>(
+    device: &mut D,
+    memory: &mut [u8],
+) -> Result<(Survey, usize), StoreFault>
+    requires { ⌜ length (now memory) ≡ 6144 ⌝ }
+    ensures { λ r. ⌜ Opens (D·Device .disk (now (device .entry))) r (D·Device .disk (now (device .exit))) (now (memory .exit)) ⌝ }
+{
+    let places = places_of(device.sectors())?;
+    device.restart()?;
+    recover_places(device, places, memory)
 }
