@@ -1,7 +1,8 @@
 // A log's record in a sector of a device: reading a sector as a record, and laying a record out.
 ghost use Prim.Native.Nat.{_≤_, _+_};
 ghost use Rattle.record.specs.Entry.{entry, reads-as};
-ghost use Rattle.record.specs.Good.{Fits, Answered, Told, Written};
+ghost use Rattle.record.specs.Calls.{Answered, Told, Written};
+ghost use Rattle.record.specs.Good.{Fits};
 ghost use Rattle.record.specs.Label.{Says, Judged, spelled};
 ghost use lib.ListN.{length, take, drop};
 ghost use mathlib.Core.Path.{_≡_};
