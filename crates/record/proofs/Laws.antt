@@ -1,24 +1,27 @@
--- What the layers above may know of a log's sectors.
-use Prim.Native.Nat.{ℕ, _+_, _-_, _*_, _%_, _^_, _≤_, _<_}
+-- What the layers above may know of a log's sectors, without opening a definition.
+use Prim.Native.Nat.{ℕ, _+_, _-_, _%_, _^_, _≤_, _<_}
 use mathlib.Core.Path.{_≡_, refl, sym, ap, subst, _∙_}
 use mathlib.Core.Logic.{_⊎_, inl, inr, ⊎-elim}
-use mathlib.Core.Bool.{Bool, true, false, cond}
-use mathlib.Core.List.{List, [], _∷_, _++_}
+use mathlib.Core.Bool.{true, false}
+use mathlib.Core.List.{List}
 use native.Mathlib.Omega.{arith}
 use lib.ListN.{length, take, drop, getD, replicate}
-use Rattle.std.proofs.shelf.Lists.{take-at, take-append-drop, take-take, drop-take, getD-take, length-take-le, length-drop, length-append, length-replicate}
-use Rattle.std.proofs.shelf.Tests.{cases-lt, cases-bool, both-ways, cond-true, cond-false}
+use Rattle.std.proofs.shelf.Lists.{take-at, length-take-le, length-drop}
+use Rattle.std.proofs.shelf.Tests.{cases-bool, both-ways, cond-true, cond-false}
 use Rattle.std.specs.declared.option.Option.{Option}
 use Rattle.std.specs.declared.option.Option.the-variants.{Some, None}
 use Rattle.record.specs.declared.Record.{Record}
 use Rattle.record.specs.declared.Record.the-variants.{Part, Page, Mark}
-use Rattle.record.specs.Fields.{value, digits, field}
+use Rattle.record.specs.Fields.{field}
 use Rattle.record.specs.Entry.{Entry, entry, laid-out, reads-as}
-use Rattle.record.specs.Good.{Placed, Fits, Good, Sound, Answered, Told}
+use Rattle.record.specs.Good.{Placed, Good, Sound}
+use Rattle.record.specs.Calls.{Answered, Told, Written}
 use Rattle.record.specs.Found.{bad, found, seen, good?}
+use Rattle.record.proofs.Rules.{fits-size, placed-same, fits-same, same-entry}
 use Rattle.record.proofs.Bytes.{laid-out-bytes}
 use Rattle.record.proofs.Finding.{good-yes, yes-good}
-use Rattle.record.proofs.Again.{serial-back, low-back, ordinal-back, page-back, offset-back, size-back, kind-back, blank-back, rest-back}
+use Rattle.record.proofs.Prefix.{same-part, same-byte, same-field}
+use Rattle.record.proofs.Again.{again, long, kind-back, blank-back, rest-back}
 
 -- Kinds: a bad entry has kind 0, a record 1 to 4.
 pub bad-kind : bad .kind ≡ 0
@@ -30,81 +33,12 @@ entry-kind (Part head page offset false bytes) = (omega arith, omega arith)
 entry-kind (Page head page bytes) = (omega arith, omega arith)
 entry-kind (Mark head) = (omega arith, omega arith)
 
--- no record has more than 96 bytes
-pub fits-size : (k p o n : ℕ) → Fits k p o n → n ≤ 96
-fits-size k p o n f =
-    ⊎-elim
-    (λ (h : k < 4). let piece = f .piece (omega arith) in omega arith)
-    (λ (h : 4 ≤ k). let mark = f .mark (omega arith) in omega arith)
-    (cases-lt k 4)
-
-fits-page : (k p o n : ℕ) → Fits k p o n → (p < 64) × (o ≤ 96)
-fits-page k p o n f =
-    ⊎-elim
-    (λ (h : k < 4). let piece = f .piece (omega arith) in (omega arith, omega arith))
-    (λ (h : 4 ≤ k). let mark = f .mark (omega arith) in (omega arith, omega arith))
-    (cases-lt k 4)
-
 -- A record's sector has 128 bytes.
-long : (e : Entry) → length (e .bytes) ≤ 96 → length (laid-out e) ≡ 128
-unfolding laid-out digits
-long e small =
-    let rest : length (e .bytes ++ replicate (96 - length (e .bytes)) 0) ≡ 96 = simp (length-append, length-replicate) (omega arith) in
-    omega arith
-
 pub laid-out-length : (places place : ℕ) (e : Entry) → Sound places place e → length (laid-out e) ≡ 128
 laid-out-length places place e sound = long e (fits-size (e .kind) (e .page) (e .offset) (length (e .bytes)) (sound .fits))
 
 pub laid-out-byte : (places place : ℕ) (e : Entry) → Sound places place e → ((i : ℕ) → getD (e .bytes) i 0 < 256) → (i : ℕ) → getD (laid-out e) i 0 < 256
 laid-out-byte places place e sound bytes = let kind = sound .fits .known in laid-out-bytes e (omega arith) bytes
-
--- equal numbers keep the same rules
-placed-same : (places place s l o s′ l′ o′ : ℕ) → s′ ≡ s → l′ ≡ l → o′ ≡ o → Placed places place s l o → Placed places place s′ l′ o′
-placed-same places place s l o s′ l′ o′ es el eo h =
-    subst (λ (x : ℕ). Placed places place x l′ o′) (sym es)
-    (subst (λ (y : ℕ). Placed places place s y o′) (sym el)
-    (subst (λ (z : ℕ). Placed places place s l z) (sym eo) h))
-
-fits-same : (k p o n k′ p′ o′ n′ : ℕ) → k′ ≡ k → p′ ≡ p → o′ ≡ o → n′ ≡ n → Fits k p o n → Fits k′ p′ o′ n′
-fits-same k p o n k′ p′ o′ n′ ek ep eo en h =
-    subst (λ (w : ℕ). Fits w p′ o′ n′) (sym ek)
-    (subst (λ (x : ℕ). Fits k x o′ n′) (sym ep)
-    (subst (λ (y : ℕ). Fits k p y n′) (sym eo)
-    (subst (λ (z : ℕ). Fits k p o z) (sym en) h)))
-
--- records with the same parts
-made : ℕ → ℕ → ℕ → ℕ → ℕ → ℕ → List ℕ → Entry
-made k s l n p o bs = record { kind = k; serial = s; low = l; ordinal = n; page = p; offset = o; bytes = bs }
-
-made-same : {k k′ s s′ l l′ n n′ p p′ o o′ : ℕ} {bs bs′ : List ℕ} → k ≡ k′ → s ≡ s′ → l ≡ l′ → n ≡ n′ → p ≡ p′ → o ≡ o′ → bs ≡ bs′ → made k s l n p o bs ≡ made k′ s′ l′ n′ p′ o′ bs′
-made-same ek es el en ep eo eb = cc
-
-same-entry : (d e : Entry) → d .kind ≡ e .kind → d .serial ≡ e .serial → d .low ≡ e .low → d .ordinal ≡ e .ordinal → d .page ≡ e .page → d .offset ≡ e .offset → d .bytes ≡ e .bytes → d ≡ e
-unfolding made
-same-entry d e ek es el en ep eo eb = made-same ek es el en ep eo eb
-
--- the numbers of a sound record, read again
-record Same (e : Entry) : Type 0 where
-  serial : field 0 8 (laid-out e) ≡ e .serial
-  low : field 8 8 (laid-out e) ≡ e .low
-  ordinal : field 16 8 (laid-out e) ≡ e .ordinal
-  page : field 24 2 (laid-out e) ≡ e .page
-  offset : field 26 2 (laid-out e) ≡ e .offset
-  size : field 28 2 (laid-out e) ≡ length (e .bytes)
-
-again : (places place : ℕ) (e : Entry) → Sound places place e → Same e
-again places place e sound =
-    let h = sound .placed in
-    let n = fits-size (e .kind) (e .page) (e .offset) (length (e .bytes)) (sound .fits) in
-    let p = fits-page (e .kind) (e .page) (e .offset) (length (e .bytes)) (sound .fits) in
-    record {
-      serial = serial-back e (omega arith);
-      low = low-back e (omega arith);
-      ordinal = ordinal-back e (omega arith);
-      page = page-back e (omega arith);
-      offset = offset-back e (omega arith);
-      size = size-back e (omega arith);
-    }
 
 -- A record that may stand at a place is good there once it is laid out,
 pub laid-out-good : (places place : ℕ) (e : Entry) → Sound places place e → Good places place (laid-out e)
@@ -163,20 +97,6 @@ good-near places place b g = good-sound places place b g .placed .near
 
 pub good-ordinal : (places place : ℕ) (b : List ℕ) → Good places place b → reads-as b .ordinal < reads-as b .serial
 good-ordinal places place b g = good-sound places place b g .placed .ordinal-below
-
--- a part of the first k bytes
-same-part : (f n k : ℕ) (a b : List ℕ) → f + n ≤ k → take k b ≡ take k a → take n (drop f b) ≡ take n (drop f a)
-same-part f n k a b within same =
-    sym (drop-take f n b)
-    ∙ ap (λ (xs : List ℕ). drop f xs) (sym (take-take (f + n) k b within) ∙ ap (λ (xs : List ℕ). take (f + n) xs) same ∙ take-take (f + n) k a within)
-    ∙ drop-take f n a
-
-same-byte : (i k : ℕ) (a b : List ℕ) → i < k → take k b ≡ take k a → getD b i 0 ≡ getD a i 0
-same-byte i k a b within same =
-    sym (getD-take k b i 0 within) ∙ ap (λ (xs : List ℕ). getD xs i 0) same ∙ getD-take k a i 0 within
-
-same-field : (f n k : ℕ) (a b : List ℕ) → f + n ≤ k → take k b ≡ take k a → field f n b ≡ field f n a
-same-field f n k a b within same = ap value (same-part f n k a b within same)
 
 -- Bytes past a record's length do not matter: a sector with the same bytes up to there is good too,
 pub rest-good : (places place : ℕ) (a b : List ℕ) → Good places place a → length b ≡ 128 → take (32 + field 28 2 a) b ≡ take (32 + field 28 2 a) a → Good places place b
@@ -246,6 +166,11 @@ found-laid-out places place e sound = found-good places place (laid-out e) (laid
 
 pub found-zeros : (places place : ℕ) → found places place (replicate 128 0) ≡ bad
 found-zeros places place = found-bad places place (replicate 128 0) (zeros-bad places place)
+
+-- A record that was written is found where it may stand.
+pub written-found : (places place : ℕ) (e : Entry) (before after : List ℕ) → Written e before true after → Placed places place (e .serial) (e .low) (e .ordinal) → found places place after ≡ e
+written-found places place e before after (w, is) placed =
+    ap (λ (b : List ℕ). found places place b) is ∙ found-laid-out places place e (record { placed = placed; fits = w .fits })
 
 -- A reading answers what is found.
 pub read-found : (places place : ℕ) (b : List ℕ) (r : Option Record) → Answered places place b r → Told b r → seen r ≡ found places place b

@@ -27,7 +27,7 @@ entry (Page head page bytes) =
 entry (Mark head) =
     record { kind = 4; serial = head .serial; low = head .low; ordinal = head .ordinal; page = 0; offset = 0; bytes = [] }
 
--- The 32 bytes before the data, of which there are so many.
+-- The 32 bytes before a record's own bytes, of which there are `size`.
 abbrev pub label : Entry → ℕ → List ℕ
 label e size =
     digits 8 (e .serial) ++ digits 8 (e .low) ++ digits 8 (e .ordinal)
