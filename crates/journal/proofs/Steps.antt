@@ -24,7 +24,7 @@ if-noted-there s x h =
     (cases-bool (eqb (x .head .serial) s))
 
 -- a note that is found by its serial has that serial, which is in bounds
-pub there : (notes : List Note) (s : ℕ) → 1 ≤ kind-of notes s → (by-serial notes s .head .serial ≡ s) × (s < 2 ^ 63)
+there : (notes : List Note) (s : ℕ) → 1 ≤ kind-of notes s → (by-serial notes s .head .serial ≡ s) × (s < 2 ^ 63)
 there notes s h =
     let x = if-noted s (getD notes (s % length notes) blank) in
     ⊎-elim
@@ -33,19 +33,6 @@ there notes s h =
     (ap (λ (y : Note). y .head .serial) is ∙ if-noted-there s (getD notes (s % length notes) blank) (subst (λ (y : Note). 1 ≤ kind-number (y .kind)) is h), ltb-true s (2 ^ 63) t))
     (λ t. absurd (omega (arith, h, ap (λ (y : Note). kind-number (y .kind)) (cond-false (ltb s (2 ^ 63)) x blank t))))
     (cases-bool (ltb s (2 ^ 63)))
-
-pub running-start : (notes : List Note) (low : ℕ) → 2 ≤ kind-of notes low → Running notes low (by-serial notes low) low
-running-start notes low h =
-    let t = there notes low (omega arith) in
-    record {
-      from = omega (arith, t .0);
-      to = omega (arith, t .0);
-      unbroken = λ s a b. let e : low ≡ s = omega arith in subst (λ x. 1 ≤ kind-of notes x) e (omega arith);
-      bound = t .1;
-      found = ap (by-serial notes) (sym (t .0));
-      ends = h;
-      greatest = λ s a b. absurd (omega (arith, t .0));
-    }
 
 module _ (notes : List Note) (low : ℕ) (end : Note) (serial : ℕ) (run : Running notes low end serial) (here : 1 ≤ kind-of notes (serial + 1)) where
   further : (s : ℕ) → low ≤ s → s ≤ serial + 1 → 1 ≤ kind-of notes s

@@ -7,7 +7,8 @@ use mathlib.Core.List.{List}
 use native.Mathlib.Nat.{mod-lt}
 use native.Mathlib.Omega.{arith}
 use lib.Dec.{eqb, ltb}
-use lib.ListN.{length, getD}
+use lib.ListN.{length, getD, set}
+use lib.Seq.{getD-set-same, getD-set-other}
 use Rattle.std.proofs.shelf.Lists.{getD-past}
 use Rattle.std.proofs.shelf.Tests.{cases-lt, cases-eq, eqb-true, eq-eqb, ne-eqb, lt-ltb, cond-true, cond-false, cond-both}
 use Rattle.std.specs.declared.result.Result.{Result}
@@ -22,11 +23,28 @@ use Rattle.journal.specs.declared.survey.LogFault.the-variants.{NoLog, NoMark}
 use Rattle.journal.specs.Log.{nothing, said, if-serial, log}
 use Rattle.journal.specs.Notes.{blank, Notes, Noted}
 use Rattle.journal.specs.Opening.{Here, Names, Runs, Covers, No-log}
-use Rattle.journal.specs.Survey.{if-noted, by-serial, kind-at, Bare, Lowest, Ended, Whole, Analysis, Analysed, Surveyed, Surveys}
+use Rattle.journal.specs.Survey.{if-noted, by-serial, kind-at, Bare, Names-low, Ended, Whole, Analysis, Analysed, Surveyed, Surveys}
 use Rattle.journal.proofs.Places.{sound, cases-said, no-places, at-place, in-log, kept}
 
 blank-notes : Notes nothing blank
 blank-notes = record { kind = refl; serial = refl; low = refl; ordinal = refl; page = refl; whole = refl }
+
+-- One more place noted: for a loop that fills the notes in.
+pub noted-more :
+    (n : ℕ) (shows : ℕ → Shown) (notes : List Note) (i : ℕ) (x : Note)
+    → i < length notes
+    → ((p : ℕ) → p < i → Notes (said n p (shows p)) (getD notes p blank))
+    → Notes (said n i (shows i)) x
+    → (p : ℕ)
+    → p < i + 1
+    → Notes (said n p (shows p)) (getD (set notes i x) p blank)
+noted-more n shows notes i x in′ old new p h =
+    ⊎-elim
+    (λ lt. subst (Notes (said n p (shows p))) (sym (getD-set-other notes i p x blank (λ e. omega arith))) (old p lt))
+    (λ ge.
+    let e : i ≡ p = omega arith in
+    subst (λ (q : ℕ). Notes (said n q (shows q)) (getD (set notes i x) q blank)) e (subst (Notes (said n i (shows i))) (sym (getD-set-same notes i x blank in′)) new))
+    (cases-lt p i)
 
 -- the note found by a serial tells of the record found by it
 
@@ -104,7 +122,7 @@ module _ (n : ℕ) (shows : ℕ → Shown) (notes : List Note) (noted : Noted n 
       (λ h. omega arith)
       (cases-lt 0 (log n shows s .kind))
 
-  pub names : (low : ℕ) → Lowest notes low → Names (log n shows) low
+  pub names : (low : ℕ) → Names-low notes low → Names (log n shows) low
   names low l =
       let best = l .best in
       let p = best .place in

@@ -54,14 +54,14 @@ Topped notes k None = Bare notes k
 Topped notes k (Some h) = Best notes k h
 
 -- The note with the greatest serial of all names low.
-pub record Lowest (notes : List Note) (low : ℕ) : Type 0 where
+pub record Names-low (notes : List Note) (low : ℕ) : Type 0 where
   pub head : Head
   pub best : Best notes (length notes) head
   pub named : head .low ≡ low
 
 abbrev pub Named : List Note → Option ℕ → Type 0
 Named notes None = Bare notes (length notes)
-Named notes (Some low) = Lowest notes low
+Named notes (Some low) = Names-low notes low
 
 -- The next note if it ends a transaction or stands alone, else the last one that did.
 abbrev pub closing-of : Note → Note → Note
@@ -104,7 +104,7 @@ pub record Covering (notes : List Note) (low end : ℕ) (pages : List Bool) : Ty
 
 -- What the analysis finds in the notes.
 pub record Analysis (notes : List Note) (s : Survey) : Type 0 where
-  pub names : Lowest notes (s .low)
+  pub names : Names-low notes (s .low)
   pub mark : kind-of notes (s .low) ≡ 4
   pub run : Ended notes (s .low) (by-serial notes (s .last))
   pub last : by-serial notes (s .last) .head .serial ≡ s .last
@@ -113,7 +113,7 @@ pub record Analysis (notes : List Note) (s : Survey) : Type 0 where
 
 -- The lowest serial is named, and has no mark.
 pub record Markless (notes : List Note) (low : ℕ) : Type 0 where
-  pub names : Lowest notes low
+  pub names : Names-low notes low
   pub no-mark : kind-of notes low ≡ 4 → ⊥
 
 abbrev pub Analysed : List Note → Result Survey LogFault → Type 0

@@ -9,6 +9,7 @@ pub use note::Kind;
 pub use note::Note;
 pub use note::look_at;
 pub use note::note_of;
+pub use note::record_at;
 pub use survey::LogFault;
 pub use survey::Survey;
 pub use survey::survey_of;

@@ -77,9 +77,16 @@ pub fn note_of(found: Option<Record<'_>>) -> Note
     }
 }
 
-// The note of a sector that holds these bytes, at this place of a log of so many sectors.
+// The record that a sector with these bytes holds, at this place of a log of so many sectors.
+pub fn record_at<'a>(sector: &'a [u8], place: usize, places: usize) -> Option<Record<'a>>
+    ensures { λ r. ⌜ found-entry r ≡ said places place (holds (now (sector .entry))) ⌝ }
+{
+    record::read(sector, place, places)
+}
+
+// The note of such a sector. Of a spoiled one it is the note of no record.
 pub fn look_at(sector: &[u8], place: usize, places: usize) -> Note
     ensures { λ r. ⌜ Notes (said places place (holds (now (sector .entry)))) r ⌝ }
 {
-    note_of(record::read(sector, place, places))
+    note_of(record_at(sector, place, places))
 }

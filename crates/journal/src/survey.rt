@@ -34,7 +34,7 @@ pub struct Survey {
     pub low: u64,
     // The greatest serial, of those that follow without a gap, that ends a transaction or stands alone.
     pub last: u64,
-    // The number of transactions up to there.
+    // The ordinal that the record with that serial carries.
     pub ordinal: u64,
     // Whether a record from low to last holds the whole page.
     pub covered: [bool; PAGES],
@@ -84,6 +84,7 @@ fn if_serial(note: Note, serial: u64) -> Note
 fn find(notes: &[Note], serial: u64) -> Note
     ensures { λ r. ⌜ r ≡ by-serial (now (notes .entry)) serial ⌝ }
 {
+    // No record has such a serial, so that one more than a serial that is found never overflows.
     if SERIALS <= serial {
         return BLANK;
     }
@@ -136,6 +137,7 @@ fn closing(end: Note, next: Note) -> Note
 }
 
 // The last note that ends a transaction or stands alone, of those that follow from low up without a gap.
+// A place holds one serial, so there are no more turns than places.
 fn run_end(notes: &[Note], low: u64) -> Note
     requires { ⌜ 2 ≤ kind-of (now notes) low ⌝ }
     ensures { λ r. ⌜ Ended (now (notes .entry)) low r ⌝ }

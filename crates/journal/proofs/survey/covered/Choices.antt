@@ -1,3 +1,4 @@
+-- The pages that the notes below this serial cover.
 use Rattle.journal.specs.Survey.{Covering}
 use Rattle.journal.proofs.survey.covered.Given as given
 

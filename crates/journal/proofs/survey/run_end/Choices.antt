@@ -1,3 +1,4 @@
+-- The run as far as the serial that was seen last; serials are bounded.
 use Prim.Native.Nat.{_-_, _^_}
 use Rattle.journal.specs.Survey.{Running}
 use Rattle.journal.proofs.survey.run_end.Given as given

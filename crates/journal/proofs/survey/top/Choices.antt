@@ -1,3 +1,4 @@
+-- The best of the notes that were seen.
 use Rattle.journal.specs.Survey.{Topped}
 use Rattle.journal.proofs.survey.top.Given as given
 
