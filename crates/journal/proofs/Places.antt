@@ -11,7 +11,8 @@ use Rattle.std.proofs.shelf.Tests.{cases-lt, cases-bool, eqb-true, eq-eqb, cond
 use Rattle.device.specs.Disk.{Shown, spoiled, holds}
 use Rattle.record.specs.Entry.{Entry, reads-as}
 use Rattle.record.specs.Fields.{field}
-use Rattle.record.specs.Good.{Fits, Good, Sound, Answered, Told}
+use Rattle.record.specs.Calls.{Answered, Told}
+use Rattle.record.specs.Good.{Fits, Good, Sound}
 use Rattle.record.specs.declared.Record.{Record}
 use Rattle.std.specs.declared.option.Option.{Option}
 use Rattle.std.specs.declared.option.Option.the-variants.{Some, None}

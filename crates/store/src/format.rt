@@ -46,7 +46,7 @@ pub fn write_record<D: Device>(
     ensures { λ r. ⌜ Tries (D·Device .disk (now (device .entry))) (wrote (entry (now («record» .entry)) .serial % places) (laid-out (entry (now («record» .entry)))) ∷ []) r (D·Device .disk (now (device .exit))) ⌝ }
 {
     let mut sector = [0u8; 128];
-    let _ = record::write(record, &mut sector);
+    let _ = record::write(*record, &mut sector);
     device.write((serial_of(record) % places as u64) as usize, &sector)
 }
 
