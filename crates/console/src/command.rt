@@ -47,12 +47,21 @@ pub enum DeviceCommand {
     Restart,
 }
 
+// What begins or ends a store on the pile.
+#[derive(Clone, Copy)]
+pub enum StoreCommand {
+    Format,
+    Open,
+    Close,
+}
+
 #[derive(Drop)]
 pub enum Command {
     Card(Side, CardCommand),
     Use(Shape),
     End,
     Device(DeviceCommand),
+    Store(StoreCommand),
 }
 
 // A line: nothing to answer, no command, or a command.
@@ -157,6 +166,15 @@ fn device_command(heap: Global, words: &[&str]) -> Result<Option<DeviceCommand>,
     }
 }
 
+fn store_command(words: &[&str]) -> Option<StoreCommand> {
+    match words {
+        ["format"] => Some(StoreCommand::Format),
+        ["open"] => Some(StoreCommand::Open),
+        ["close"] => Some(StoreCommand::Close),
+        _ => None,
+    }
+}
+
 fn whole(heap: Global, words: &[&str]) -> Result<Option<Command>, AllocError> {
     if let [verb, name, rest @ ..] = words {
         if let Some(side) = named(name) {
@@ -175,6 +193,9 @@ fn whole(heap: Global, words: &[&str]) -> Result<Option<Command>, AllocError> {
     }
     if let ["end"] = words {
         return Ok(Some(Command::End));
+    }
+    if let Some(c) = store_command(words) {
+        return Ok(Some(Command::Store(c)));
     }
     Ok(
         match device_command(heap, words)? {

@@ -147,6 +147,7 @@ impl Console {
             Command::Use(shape) => put_in_use(rt, input, shape, &mut self.left, &mut self.right),
             Command::End => not_now(rt),
             Command::Device(_command) => not_now(rt),
+            Command::Store(_command) => not_now(rt),
         }
     }
 

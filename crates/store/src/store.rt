@@ -15,6 +15,7 @@ use crate::state::State;
 use device::Device;
 
 // A store owns its device until it is closed.
+#[derive(Drop)]
 pub struct Store<D> {
     device: D,
     state: State,
