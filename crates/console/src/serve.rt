@@ -131,7 +131,11 @@ fn step<D: Device>(rt: &LibcRuntime, device: &mut D, line: &[u8]) -> Result<Next
 
 // A store that is open in the console's sense, be it off: works through the input until it is closed, the
 // pile is let go or the input ends, and gives the device back.
-fn hold<D: Device + Drop>(rt: &LibcRuntime, input: &mut BufReader<Stdin>, store: Store<D>) -> Result<(D, Next), AnyError> {
+fn hold<D: Device + Drop>(
+    rt: &LibcRuntime,
+    input: &mut BufReader<Stdin>,
+    store: Store<D>,
+) -> Result<(D, Next), AnyError> {
     for _ in 0..u64::MAX {
         let Some(line) = next_line(rt.alloc(), input)? else {
             return Ok((store.close(), Next::Stop));
@@ -163,7 +167,11 @@ fn held_step(rt: &LibcRuntime, line: &[u8]) -> Result<Option<Next>, AnyError> {
 }
 
 // Formats the pile, and holds the store on it.
-fn format<D: Device + Drop>(rt: &LibcRuntime, input: &mut BufReader<Stdin>, device: D) -> Result<(D, Next), AnyError> {
+fn format<D: Device + Drop>(
+    rt: &LibcRuntime,
+    input: &mut BufReader<Stdin>,
+    device: D,
+) -> Result<(D, Next), AnyError> {
     let (store, answer) = Store::format(device);
     match answer {
         Ok(()) => println!(rt, "ok")?,
@@ -176,7 +184,11 @@ fn format<D: Device + Drop>(rt: &LibcRuntime, input: &mut BufReader<Stdin>, devi
 }
 
 // Opens the store on the pile, and holds it.
-fn open<D: Device + Drop>(rt: &LibcRuntime, input: &mut BufReader<Stdin>, device: D) -> Result<(D, Next), AnyError> {
+fn open<D: Device + Drop>(
+    rt: &LibcRuntime,
+    input: &mut BufReader<Stdin>,
+    device: D,
+) -> Result<(D, Next), AnyError> {
     let (store, answer) = Store::open(device);
     match answer {
         Ok((found, strays)) => println!(rt, "ok {found} {strays}")?,
@@ -189,7 +201,12 @@ fn open<D: Device + Drop>(rt: &LibcRuntime, input: &mut BufReader<Stdin>, device
 }
 
 // What comes after a line that ended in `next`, on the device that it left.
-fn onward<D: Device + Drop>(rt: &LibcRuntime, input: &mut BufReader<Stdin>, device: D, next: Next) -> Result<(D, Next), AnyError> {
+fn onward<D: Device + Drop>(
+    rt: &LibcRuntime,
+    input: &mut BufReader<Stdin>,
+    device: D,
+    next: Next,
+) -> Result<(D, Next), AnyError> {
     match next {
         Next::Line => Ok((device, Next::Line)),
         Next::Stop => Ok((device, Next::Stop)),
@@ -200,7 +217,11 @@ fn onward<D: Device + Drop>(rt: &LibcRuntime, input: &mut BufReader<Stdin>, devi
 
 // Says how many sectors the pile has, then works through the input until the pile is let go or the
 // input ends.
-pub fn serve<D: Device + Drop>(rt: &LibcRuntime, input: &mut BufReader<Stdin>, device: D) -> Result<(), AnyError> {
+pub fn serve<D: Device + Drop>(
+    rt: &LibcRuntime,
+    input: &mut BufReader<Stdin>,
+    device: D,
+) -> Result<(), AnyError> {
     let mut device = device;
     let count = device.sectors();
     println!(rt, "ok {count}")?;

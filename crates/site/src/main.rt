@@ -10,15 +10,17 @@ use mirror::Mirror;
 use mirror::MirrorDevice;
 use std::error::AnyError;
 
+mod recovery;
+
 // A card's bytes and flags, as a controller's slots hold them.
 #[derive(Drop)]
-struct Card {
-    bytes: Vec<u8>,
-    flags: Vec<u8>,
+pub struct Card {
+    pub bytes: Vec<u8>,
+    pub flags: Vec<u8>,
 }
 
 impl Card {
-    fn blank(rt: &LibcRuntime, sectors: usize) -> Result<Card, AnyError> {
+    pub fn blank(rt: &LibcRuntime, sectors: usize) -> Result<Card, AnyError> {
         Ok(Card {
             bytes: vec![in rt.alloc(); 0u8; sectors.saturating_mul(SECTOR)]?,
             flags: vec![in rt.alloc(); 0u8; sectors]?,
@@ -29,7 +31,7 @@ impl Card {
 // Where the story keeps its line of text, and how many sectors a card has.
 const PLACE: usize = 5;
 
-const SECTORS: usize = 224;
+pub const SECTORS: usize = 224;
 
 // A line of text in a sector, with zeros after it.
 fn sector_of(text: &[u8]) -> [u8; 128] {
@@ -50,7 +52,7 @@ fn text_of(sector: &[u8]) -> &[u8] {
     sector
 }
 
-fn say_fault(rt: &LibcRuntime, fault: DeviceFault) -> Result<(), AnyError> {
+pub fn say_fault(rt: &LibcRuntime, fault: DeviceFault) -> Result<(), AnyError> {
     match fault {
         DeviceFault::Power(0) => println!(rt, "  the cards are off")?,
         DeviceFault::Power(1) => println!(rt, "  power failed while the left card was written")?,
@@ -142,16 +144,22 @@ fn tell_card(rt: &LibcRuntime, name: &str, card: &Card) -> Result<(), AnyError> 
     Ok(())
 }
 
-fn main(rt: LibcRuntime) -> Result<(), AnyError> {
-    let mut left = Card::blank(&rt, SECTORS)?;
-    let mut right = Card::blank(&rt, SECTORS)?;
+fn tell_pair(rt: &LibcRuntime) -> Result<(), AnyError> {
+    let mut left = Card::blank(rt, SECTORS)?;
+    let mut right = Card::blank(rt, SECTORS)?;
     fit(
-        &rt,
+        rt,
         left.bytes.as_mut_slice(),
         left.flags.as_mut_slice(),
         right.bytes.as_mut_slice(),
         right.flags.as_mut_slice(),
     )?;
-    tell_card(&rt, "left", &left)?;
-    tell_card(&rt, "right", &right)
+    tell_card(rt, "left", &left)?;
+    tell_card(rt, "right", &right)
+}
+
+fn main(rt: LibcRuntime) -> Result<(), AnyError> {
+    tell_pair(&rt)?;
+    println!(rt, "")?;
+    recovery::tell_recovery(&rt)
 }
