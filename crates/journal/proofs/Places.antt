@@ -16,32 +16,24 @@ use Rattle.record.specs.Good.{Fits, Good, Sound}
 use Rattle.record.specs.declared.Record.{Record}
 use Rattle.std.specs.declared.option.Option.{Option}
 use Rattle.std.specs.declared.option.Option.the-variants.{Some, None}
-use Rattle.journal.specs.Decide.{Decided, good}
-use Rattle.journal.specs.Log.{nothing, if-good, said, if-serial, log}
+use Rattle.record.proofs.Laws.{found-good, found-bad, kind-good, good-sound, good-kind, good-or-not, zeros-bad}
+use Rattle.journal.specs.Log.{nothing, said, if-serial, log}
 use Rattle.journal.specs.Notes.{found-entry}
 use Rattle.journal.specs.Opening.{Here}
 
 -- a sector that is good says what it reads as, and any other says nothing
 
-taken : {A : Type 0} (d : Decided A) (e : Entry) → A → if-good d e ≡ e
-taken (inl _) e a = refl
-taken (inr n) e a = absurd (n a)
-
-left : {A : Type 0} (d : Decided A) (e : Entry) → (A → ⊥) → if-good d e ≡ nothing
-left (inl a) e n = absurd (n a)
-left (inr _) e n = refl
-
 pub said-good : (n p : ℕ) (bytes : List ℕ) → Good n p bytes → said n p (holds bytes) ≡ reads-as bytes
-said-good n p bytes g = taken (good n p bytes) (reads-as bytes) g
+said-good n p bytes g = found-good n p bytes g
 
 pub said-bad : (n p : ℕ) (bytes : List ℕ) → (Good n p bytes → ⊥) → said n p (holds bytes) ≡ nothing
-said-bad n p bytes b = left (good n p bytes) (reads-as bytes) b
+said-bad n p bytes b = found-bad n p bytes b
 
 pub said-spoiled : (n p : ℕ) → said n p spoiled ≡ nothing
 said-spoiled n p = refl
 
 pub said-zeros : (n p : ℕ) → said n p (holds (replicate 128 0)) ≡ nothing
-said-zeros n p = said-bad n p (replicate 128 0) (λ g. omega (arith, g .fits .known .0))
+said-zeros n p = said-bad n p (replicate 128 0) (zeros-bad n p)
 
 -- what a reading answers is what the sector says
 pub read-said : (n p : ℕ) (bytes : List ℕ) (found : Option Record) → Answered n p bytes found → Told bytes found → found-entry found ≡ said n p (holds bytes)
@@ -50,45 +42,21 @@ read-said n p bytes None b t = sym (said-bad n p bytes b)
 
 -- a record at a place keeps the rules of the place and of its kind
 
-size : (bytes : List ℕ) (n : ℕ) → length bytes ≡ 128 → n ≤ 96 → length (take n (drop 32 bytes)) ≡ n
-size bytes n long h = simp (length-take, length-drop) (omega arith)
-
--- no kind has room for more than a page
-short : (kind page offset n : ℕ) → Fits kind page offset n → n ≤ 96
-short kind page offset n f =
-    ⊎-elim
-    (λ h. omega (arith, f .mark (omega (arith, f .known)) .2))
-    (λ h. omega (arith, f .piece h .2))
-    (cases-lt 3 kind)
-
-sound-bytes : (n p : ℕ) (bytes : List ℕ) → Good n p bytes → Sound n p (reads-as bytes)
-unfolding reads-as
-sound-bytes n p bytes g =
-    let few = short (getD bytes 30 0) (field 24 2 bytes) (field 26 2 bytes) (field 28 2 bytes) (g .fits) in
-    let same = size bytes (field 28 2 bytes) (g .long) few in
-    record {
-      placed = g .placed;
-      fits = subst (λ (k : ℕ). Fits (getD bytes 30 0) (field 24 2 bytes) (field 26 2 bytes) k) (sym same) (g .fits);
-    }
-
-sound-if : (n p : ℕ) (bytes : List ℕ) (d : Decided (Good n p bytes)) → 1 ≤ if-good d (reads-as bytes) .kind → Sound n p (if-good d (reads-as bytes))
-sound-if n p bytes (inl g) h = sound-bytes n p bytes g
-sound-if n p bytes (inr _) h = absurd (omega arith)
-
 pub sound : (n p : ℕ) (x : Shown) → 1 ≤ said n p x .kind → Sound n p (said n p x)
 sound n p spoiled h = absurd (omega arith)
-sound n p (holds bytes) h = sound-if n p bytes (good n p bytes) h
+sound n p (holds bytes) h =
+    let g = kind-good n p bytes h in
+    subst (λ (e : Entry). Sound n p e) (sym (found-good n p bytes g)) (good-sound n p bytes g)
 
 -- a place holds a record, or says nothing
 
-kind-if : (n p : ℕ) (bytes : List ℕ) (d : Decided (Good n p bytes)) → (if-good d (reads-as bytes) ≡ nothing) ⊎ (1 ≤ if-good d (reads-as bytes) .kind)
-unfolding reads-as
-kind-if n p bytes (inl g) = inr (g .fits .known .0)
-kind-if n p bytes (inr _) = inl refl
-
 pub cases-said : (n p : ℕ) (x : Shown) → (said n p x ≡ nothing) ⊎ (1 ≤ said n p x .kind)
 cases-said n p spoiled = inl refl
-cases-said n p (holds bytes) = kind-if n p bytes (good n p bytes)
+cases-said n p (holds bytes) =
+    ⊎-elim
+    (λ g. inr (subst (λ (e : Entry). 1 ≤ e .kind) (sym (found-good n p bytes g)) (good-kind n p bytes g .0)))
+    (λ b. inl (found-bad n p bytes b))
+    (good-or-not n p bytes)
 
 -- a log with no places holds nothing
 pub no-places : (p : ℕ) (x : Shown) → said 0 p x ≡ nothing

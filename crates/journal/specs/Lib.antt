@@ -1,5 +1,4 @@
 -- The log of a device, seen by serial, and what an opening makes of it.
-pub mod Decide
 pub mod Log
 pub mod Memory
 pub mod Notes

@@ -1,26 +1,20 @@
 -- The log, seen by serial: places in the ring of sectors are named here and nowhere above.
 use Prim.Native.Nat.{ℕ, _%_}
 use mathlib.Core.Bool.{cond}
-use mathlib.Core.Logic.{inl, inr}
-use mathlib.Core.List.{List, []}
 use lib.Dec.{eqb}
 use Rattle.device.specs.Disk.{Shown, spoiled, holds}
-use Rattle.record.specs.Entry.{Entry, reads-as}
-use Rattle.journal.specs.Decide.{Decided, good}
+use Rattle.record.specs.Entry.{Entry}
+use Rattle.record.specs.Found.{bad, found}
 
 -- What stands for a sector that holds no record: kind 0. So kind 1 and more is a record, 2 and more
 -- ends a transaction or stands alone (a last part, a page, a mark), and 4 is a mark.
 abbrev pub nothing : Entry
-nothing = record { kind = 0; serial = 0; low = 0; ordinal = 0; page = 0; offset = 0; bytes = [] }
+nothing = bad
 
 -- The record in a sector at a place of a log of so many sectors; nothing where it is not good.
-abbrev pub if-good : {A : Type 0} → Decided A → Entry → Entry
-if-good (inl _) e = e
-if-good (inr _) e = nothing
-
 abbrev pub said : ℕ → ℕ → Shown → Entry
 said places place spoiled = nothing
-said places place (holds bytes) = if-good (good places place bytes) (reads-as bytes)
+said places place (holds bytes) = found places place bytes
 
 -- The record with serial s, where its place holds it; nothing where that holds another, or none.
 abbrev pub if-serial : ℕ → Entry → Entry

@@ -50,19 +50,13 @@ pub fn write_record<D: Device>(
     device.write((serial_of(record) % places as u64) as usize, &sector)
 }
 
-fn mark_of(head: Head) -> Record<'static>
-    ensures { λ r. ⌜ entry r ≡ mark head ⌝ }
-{
-    Record::Mark { head }
-}
-
 // Writes a mark in its place of the log.
 pub fn write_mark<D: Device>(device: &mut D, places: usize, head: Head) -> Result<(), DeviceFault>
     requires some { ⌜ 1 ≤ places ⌝ }
     requires room { ⌜ places ≤ D·Device .disk (now device) .plate .sectors ⌝ }
     ensures { λ r. ⌜ Tries (D·Device .disk (now (device .entry))) (wrote (head .serial % places) (laid-out (mark head)) ∷ []) r (D·Device .disk (now (device .exit))) ⌝ }
 {
-    write_record(device, places, &mark_of(head))
+    write_record(device, places, &Record::mark(head))
 }
 
 // Restarts the device and writes zeros over all of its sectors.
