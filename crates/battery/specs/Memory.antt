@@ -25,13 +25,14 @@ pub record Put (bytes : List ℕ) (s : ℕ) (new after : List ℕ) : Type 0 wher
   pub there : cell after s ≡ new
   pub elsewhere : (i : ℕ) → i ≢ s → cell after i ≡ cell bytes i
 
--- The model: always on, never spoiled, and each write stands at once.
+-- The model: always on, never spoiled, and each write stands at once. Power never failed in it.
 abbrev pub model : Battery → Disk
 model b = record {
   plate = record { sectors = 224; origin = b .origin; ends = b .origin ∷ []; blames = λ _. b .origin };
   on = true;
   shows = λ i. holds (cell (b .bytes) i);
   others = λ _. [];
+  told = b .origin;
 }
 
 -- A new memory: zeros.

@@ -118,6 +118,7 @@ tore c s bytes x e ready off seen may =
       off = off;
       plate = seen .same;
       origin = inr (inl refl);
+      told = ap (λ (p : Plate). p .origin) (seen .same);
       elsewhere = λ i other. nothing-new c e i (seen .elsewhere i other);
       there = λ y. ⊎-elim
           (λ is. ⊎-elim

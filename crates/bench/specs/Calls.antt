@@ -81,11 +81,6 @@ pub record Left (c : Card) (bs fs : List ℕ) (n : ℕ) (is-on : Bool) (e : Card
 abbrev pub Filled : Card → ℕ → List ℕ → Card → Type 0
 Filled c s bytes e = Left c (put (c .bytes) s bytes) (set (c .flags) s 0) (c .taken) (c .on) e
 
--- Whether a call with sector s and a buffer of n bytes may go on.
-abbrev pub Admitted : Card → ℕ → ℕ → Answer → Type 0
-Admitted c s n (Ok _) = Ready c s n
-Admitted c s n (Err f) = ((c .on ≡ false) × (f ≡ Power 0)) ⊎ (Wrong c s n × (f ≡ Misaddressed s (c .origin)))
-
 -- A read of sector s: its answer, and the device and the buffer after it.
 pub record Fetched (c : Card) (s : ℕ) (before : List ℕ) (r : Answer) (e : Card) (after : List ℕ) : Type 0 where
   pub off : c .on ≡ false → (r ≡ silent) × (after ≡ before)

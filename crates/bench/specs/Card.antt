@@ -56,11 +56,12 @@ code c = code-at (c .plan) (c .taken)
 abbrev pub next : Card → ℕ
 next c = one-more (c .plan) (c .taken)
 
--- The model: what a sector shows is all that may stand there.
+-- The model: what a sector shows is all that may stand there, and power that fails tells its origin.
 abbrev pub model : Card → Disk
 model c = record {
   plate = record { sectors = sectors c; origin = c .origin; ends = c .origin ∷ []; blames = λ _. c .origin };
   on = c .on;
   shows = λ i. shown c i;
   others = λ _. [];
+  told = c .origin;
 }

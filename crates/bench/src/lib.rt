@@ -1,7 +1,7 @@
 // A bench device: sectors in the caller's bytes, and power that fails where a plan says so.
-ghost use Rattle.bench.specs.Calls.{Made, Known, Means, stays, Took, Filled, Stored, Admitted, Fetched, Waited, Woken};
+ghost use Rattle.bench.specs.Calls.{Made, Known, Means, stays, Took, Filled, Stored, Fetched, Waited, Woken};
 ghost use Rattle.bench.specs.Card.{card, cell, code-at, put, model, sectors};
-ghost use Rattle.device.specs.Meaning.{Read, Write, Barrier, Restart};
+ghost use Rattle.device.specs.Meaning.{Admitted, Read, Write, Barrier, Restart};
 ghost use lib.Dec.{T};
 ghost use lib.ListN.{length};
 ghost use Prim.Native.Nat.{_+_, _*_, _<_, _≤_};
@@ -110,17 +110,11 @@ impl<'a> Bench<'a> {
         }
     }
 
-    // Off comes before a wrong sector or buffer.
+    // Whether a call with this sector and so many bytes may go on.
     fn admit(&self, sector: usize, size: usize) -> Result<(), DeviceFault>
-        ensures { λ r. ⌜ Admitted (card (now (self .entry))) sector size r ⌝ }
+        ensures { λ r. ⌜ Admitted (now (self .entry) .supply .on) (sectors (card (now (self .entry)))) (now (self .entry) .origin) sector size r ⌝ }
     {
-        if !self.supply.on {
-            return Err(DeviceFault::Power(0));
-        }
-        if sector >= self.count() || size != SECTOR {
-            return Err(DeviceFault::Misaddressed(sector, self.origin));
-        }
-        Ok(())
+        device::admit(self.supply.on, self.count(), self.origin, sector, size)
     }
 
     // As many sectors as have both their bytes and a flag: in a device that was made, all.

@@ -15,31 +15,31 @@ use Rattle.std.specs.declared.result.Result.the-variants.{Ok, Err}
 use Rattle.std.specs.declared.option.Option.the-variants.{Some, None}
 use Rattle.device.specs.declared.fault.DeviceFault.the-variants.{Power, Misaddressed, Unfit, Spoiled}
 use Rattle.device.specs.Disk.{Disk, Plate, Shown, spoiled, holds, Among, Stands}
-use Rattle.device.specs.Meaning.{Answer, Addressed, Nothing-new, Torn, Was-off, Lost, Wrote, May-write, Failed, Read, Read-done, Write, Barrier, Restart, Restarted, Settled}
+use Rattle.device.specs.Meaning.{Answer, Addressed, Nothing-new, Torn, Was-off, Lost, Wrote, May-write, Failed, Read, Read-done, Write, Barrier, Restart, Restarted, Settled, told-after}
+use Rattle.device.proofs.Changes.{not-astray, still-addressed, faded-failed, read-plate}
 use Rattle.cache.specs.Line.{Line, line, kept, is-held, later, rewritten}
 use Rattle.cache.specs.State.{State, laid, over, plate-over, disk-of, Fits, Sound}
 use Rattle.cache.specs.Exact.{Asked, on-after, From-held, From-below, Reads, Restarts}
-use Rattle.cache.proofs.Disks.{not-astray, still-addressed, failed-plate, failed-origin, failed-old, read-plate}
 use Rattle.cache.proofs.Overlay as lay
 
-abbrev pub made : Disk → List Line → Bool → State
-made e h on = record { below = e; held = h; on = on }
+abbrev pub made : Disk → List Line → Bool → ℕ → State
+made e h on told = record { below = e; held = h; on = on; told = told }
 
 -- a restart below, whatever was held
-restart-empty : (c : State) (r : Answer) (e : Disk) → Restart (c .below) r e → Restart (disk-of c) r (disk-of (made e [] (isOk r)))
-restart-empty c (Ok _) e s =
-    record { on = refl; plate = ap plate-over (s .plate); chosen = λ i. lay.over-under (c .below) (c .held) i (e .shows i) (s .chosen i); quiet = s .quiet }
-restart-empty c (Err (Misaddressed _ _)) e s = elim s [ ]
-restart-empty c (Err Unfit) e s = elim s [ ]
-restart-empty c (Err (Spoiled _ _)) e s = elim s [ ]
-restart-empty c (Err (Power o)) e s =
-    record { off = refl; plate = ap plate-over (s .plate); origin = s .origin; old = λ i x st. lay.over-under (c .below) (c .held) i x (s .old i x st) }
+restart-empty : (c : State) (r : Answer) (e : Disk) (b : Bool) (before told : ℕ) → b ≡ isOk r → told ≡ told-after before r
+    → Restart (c .below) r e → Restart (disk-of c) r (disk-of (made e [] b told))
+restart-empty c (Ok _) e b before told on tells s =
+    record { on = on; plate = ap plate-over (s .plate); chosen = λ i. lay.over-under (c .below) (c .held) i (e .shows i) (s .chosen i); quiet = s .quiet }
+restart-empty c (Err (Misaddressed _ _)) e b before told on tells s = elim s [ ]
+restart-empty c (Err Unfit) e b before told on tells s = elim s [ ]
+restart-empty c (Err (Spoiled _ _)) e b before told on tells s = elim s [ ]
+restart-empty c (Err (Power o)) e b before told on tells s =
+    record { off = on; plate = ap plate-over (s .plate); origin = s .origin; told = tells; old = λ i x st. lay.over-under (c .below) (c .held) i x (s .old i x st) }
 
-pub restart-meaning : (c : State) (r : Answer) (e : Disk) (h : List Line) (b : Bool) → h ≡ [] → b ≡ isOk r
-    → Restart (c .below) r e → Restart (disk-of c) r (disk-of (made e h b))
-restart-meaning c r e h b none on s =
-    subst (λ (b' : Bool). Restart (disk-of c) r (disk-of (made e h b'))) (sym on)
-    (subst (λ (h' : List Line). Restart (disk-of c) r (disk-of (made e h' (isOk r)))) (sym none) (restart-empty c r e s))
+pub restart-meaning : (c : State) (r : Answer) (e : Disk) (h : List Line) (b : Bool) (before told : ℕ) → h ≡ [] → b ≡ isOk r → told ≡ told-after before r
+    → Restart (c .below) r e → Restart (disk-of c) r (disk-of (made e h b told))
+restart-meaning c r e h b before told none on tells s =
+    subst (λ (h' : List Line). Restart (disk-of c) r (disk-of (made e h' b told))) (sym none) (restart-empty c r e b before told on tells s)
 
 restart-on : (d : Disk) (r : Answer) (e : Disk) → Restart d r e → isOk r ≡ on-after r
 restart-on d (Ok _) e s = refl
@@ -48,8 +48,9 @@ restart-on d (Err (Misaddressed _ _)) e s = elim s [ ]
 restart-on d (Err Unfit) e s = elim s [ ]
 restart-on d (Err (Spoiled _ _)) e s = elim s [ ]
 
-pub restart-exact : (c : State) (r : Answer) (e : Disk) (h : List Line) (b : Bool) → h ≡ [] → b ≡ isOk r → Restart (c .below) r e → Restarts c r (made e h b)
-restart-exact c r e h b none on s = record { below = s; turns = none; on = on ∙ restart-on (c .below) r e s }
+pub restart-exact : (c : State) (r : Answer) (e : Disk) (h : List Line) (b : Bool) (told : ℕ) → h ≡ [] → b ≡ isOk r → told ≡ told-after (c .told) r
+    → Restart (c .below) r e → Restarts c r (made e h b told)
+restart-exact c r e h b told none on tells s = record { below = s; turns = none; on = on ∙ restart-on (c .below) r e s; told = tells }
 
 pub sound-none : (d : Disk) (h : List Line) → h ≡ [] → Fits d h
 sound-none d h none = subst (λ (h' : List Line). Fits d h') (sym none) tt
@@ -86,23 +87,26 @@ read-held-meaning c s before after a k =
     record { on = a .on; asked = asked-above c s (length before) a; same = refl; shown = lay.shows-kept (c .below) (c .held) s after k }
 
 -- a sector that is not held is read below
-read-lost : (c : State) (o : ℕ) (e : Disk) → c .on ≡ true → Failed (c .below) o e → Failed (disk-of c) o (disk-of (made e (c .held) false))
+read-lost : (c : State) (o : ℕ) (e : Disk) → c .on ≡ true → Failed (c .below) o e → Failed (disk-of c) o (disk-of (made e (c .held) false o))
 read-lost c o e on f =
+    let w = faded-failed (c .below) e o f in
     inr (
       on,
       record {
         off = refl;
-        plate = ap plate-over (failed-plate (c .below) o e f);
-        origin = failed-origin (c .below) o e f;
-        old = λ i. lay.over-old (c .below) e (c .held) i (failed-old (c .below) o e f i);
+        plate = ap plate-over (w .plate);
+        origin = w .origin;
+        told = refl;
+        old = λ i. lay.over-old (c .below) e (c .held) i (w .old i);
       },
     )
 
-same-above : (c : State) (e : Disk) → c .on ≡ true → e ≡ c .below → disk-of (made e (c .held) true) ≡ disk-of c
-same-above c e on same = ap (λ (d : Disk). disk-of (made d (c .held) true)) same ∙ ap (λ (b : Bool). disk-of (made (c .below) (c .held) b)) (sym on)
+same-above : (c : State) (e : Disk) → c .on ≡ true → e ≡ c .below → disk-of (made e (c .held) true (c .told)) ≡ disk-of c
+same-above c e on same =
+    ap (λ (d : Disk). disk-of (made d (c .held) true (c .told))) same ∙ ap (λ (b : Bool). disk-of (made (c .below) (c .held) b (c .told))) (sym on)
 
 read-above : (c : State) (s : ℕ) (before : List ℕ) (r : Answer) (e : Disk) (after : List ℕ) → Asked c s (length before) → kept s (c .held) ≡ None
-    → Read (c .below) s before r e after → Read (disk-of c) s before r (disk-of (made e (c .held) (on-after r))) after
+    → Read (c .below) s before r e after → Read (disk-of c) s before r (disk-of (made e (c .held) (on-after r) (told-after (c .told) r))) after
 read-above c s before (Ok _) e after a k d =
     record { on = a .on; asked = asked-above c s (length before) a; same = same-above c e (a .on) (d .same); shown = lay.shows-below (c .below) (c .held) s k ∙ d .shown }
 read-above c s before (Err (Power o)) e after a k d = (read-lost c o e (a .on) (d .0), d .1)
@@ -118,28 +122,29 @@ read-above c s before (Err (Spoiled t o)) e after a k d =
       untouched = d .untouched;
     }
 
-pub read-below-meaning : (c : State) (s : ℕ) (before : List ℕ) (r : Answer) (e : Disk) (after : List ℕ) (b : Bool) → Asked c s (length before) → is-held s (c .held) ≡ false
-    → b ≡ on-after r → Read (c .below) s before r e after → Read (disk-of c) s before r (disk-of (made e (c .held) b)) after
-read-below-meaning c s before r e after b a k on d =
-    subst (λ (b' : Bool). Read (disk-of c) s before r (disk-of (made e (c .held) b')) after) (sym on) (read-above c s before r e after a (not-held s (c .held) k) d)
+pub read-below-meaning : (c : State) (s : ℕ) (before : List ℕ) (r : Answer) (e : Disk) (after : List ℕ) (b : Bool) (told : ℕ) → Asked c s (length before) → is-held s (c .held) ≡ false
+    → b ≡ on-after r → told ≡ told-after (c .told) r → Read (c .below) s before r e after → Read (disk-of c) s before r (disk-of (made e (c .held) b told)) after
+read-below-meaning c s before r e after b told a k on tells d =
+    subst (λ (b' : Bool). Read (disk-of c) s before r (disk-of (made e (c .held) b' told)) after) (sym on)
+    (subst (λ (t : ℕ). Read (disk-of c) s before r (disk-of (made e (c .held) (on-after r) t)) after) (sym tells) (read-above c s before r e after a (not-held s (c .held) k) d))
 
-from-below : (c : State) (s : ℕ) (before : List ℕ) (r : Answer) (e : Disk) (after : List ℕ) (b : Bool) → Asked c s (length before) → is-held s (c .held) ≡ false
-    → b ≡ on-after r → Read (c .below) s before r e after → From-below c s before r (made e (c .held) b) after
-from-below c s before r e after b a k on d = record { asked = a; absent = k; read = d; turns = refl; on = on }
+from-below : (c : State) (s : ℕ) (before : List ℕ) (r : Answer) (e : Disk) (after : List ℕ) (b : Bool) (told : ℕ) → Asked c s (length before) → is-held s (c .held) ≡ false
+    → b ≡ on-after r → told ≡ told-after (c .told) r → Read (c .below) s before r e after → From-below c s before r (made e (c .held) b told) after
+from-below c s before r e after b told a k on tells d = record { asked = a; absent = k; read = d; turns = refl; on = on; told = tells }
 
-pub read-below-exact : (c : State) (s : ℕ) (before : List ℕ) (r : Answer) (e : Disk) (after : List ℕ) (b : Bool) → Asked c s (length before) → is-held s (c .held) ≡ false
-    → b ≡ on-after r → Read (c .below) s before r e after → Reads c s before r (made e (c .held) b) after
-read-below-exact c s before (Ok u) e after b a k on d = inr (from-below c s before (Ok u) e after b a k on d)
-read-below-exact c s before (Err (Power o)) e after b a k on d = inr (from-below c s before (Err (Power o)) e after b a k on d)
-read-below-exact c s before (Err (Misaddressed t o)) e after b a k on d = absurd (not-astray (c .below) s (length before) (a .addressed) (d .0 .why))
-read-below-exact c s before (Err Unfit) e after b a k on d = elim d [ ]
-read-below-exact c s before (Err (Spoiled t o)) e after b a k on d = from-below c s before (Err (Spoiled t o)) e after b a k on d
+pub read-below-exact : (c : State) (s : ℕ) (before : List ℕ) (r : Answer) (e : Disk) (after : List ℕ) (b : Bool) (told : ℕ) → Asked c s (length before) → is-held s (c .held) ≡ false
+    → b ≡ on-after r → told ≡ told-after (c .told) r → Read (c .below) s before r e after → Reads c s before r (made e (c .held) b told) after
+read-below-exact c s before (Ok u) e after b told a k on tells d = inr (from-below c s before (Ok u) e after b told a k on tells d)
+read-below-exact c s before (Err (Power o)) e after b told a k on tells d = inr (from-below c s before (Err (Power o)) e after b told a k on tells d)
+read-below-exact c s before (Err (Misaddressed t o)) e after b told a k on tells d = absurd (not-astray (c .below) s (length before) (a .addressed) (d .0 .why))
+read-below-exact c s before (Err Unfit) e after b told a k on tells d = elim d [ ]
+read-below-exact c s before (Err (Spoiled t o)) e after b told a k on tells d = from-below c s before (Err (Spoiled t o)) e after b told a k on tells d
 
 pub read-below-sound : (d : Disk) (s : ℕ) (before : List ℕ) (r : Answer) (e : Disk) (after : List ℕ) (ls : List Line) → Read d s before r e after → Fits d ls → Fits e ls
-read-below-sound d s before r e after ls w = fits-still d e ls (read-plate d s before r e after w)
+read-below-sound d s before r e after ls w = fits-still d e ls (read-plate d e s before after r w)
 
 -- a held sector is given new bytes
-rewrite-above : (c : State) (s : ℕ) (b : List ℕ) → Asked c s (length b) → is-held s (c .held) ≡ true → Wrote (disk-of c) s b (disk-of (made (c .below) (rewritten s b (c .held)) (c .on)))
+rewrite-above : (c : State) (s : ℕ) (b : List ℕ) → Asked c s (length b) → is-held s (c .held) ≡ true → Wrote (disk-of c) s b (disk-of (made (c .below) (rewritten s b (c .held)) (c .on) (c .told)))
 rewrite-above c s b a k =
     record {
       was-on = a .on;
@@ -155,19 +160,19 @@ rewrite-above c s b a k =
     }
 
 pub rewrite-meaning : (c : State) (s : ℕ) (b : List ℕ) (h : List Line) → Asked c s (length b) → is-held s (c .held) ≡ true → h ≡ rewritten s b (c .held)
-    → Wrote (disk-of c) s b (disk-of (made (c .below) h (c .on)))
-rewrite-meaning c s b h a k e = subst (λ (h' : List Line). Wrote (disk-of c) s b (disk-of (made (c .below) h' (c .on)))) (sym e) (rewrite-above c s b a k)
+    → Wrote (disk-of c) s b (disk-of (made (c .below) h (c .on) (c .told)))
+rewrite-meaning c s b h a k e = subst (λ (h' : List Line). Wrote (disk-of c) s b (disk-of (made (c .below) h' (c .on) (c .told)))) (sym e) (rewrite-above c s b a k)
 
 pub rewrite-sound : (c : State) (s : ℕ) (b : List ℕ) (h : List Line) → Asked c s (length b) → h ≡ rewritten s b (c .held) → Fits (c .below) (c .held) → Fits (c .below) h
 rewrite-sound c s b h a e f = subst (λ (h' : List Line). Fits (c .below) h') (sym e) (fits-rewritten (c .below) (c .held) s b (a .addressed) f)
 
 -- a sector is taken in at the end, over lines that show what was shown
-pub take-meaning : (c : State) (s : ℕ) (b : List ℕ) (m : Disk) (ls h : List Line) (on : Bool) → Asked c s (length b) → h ≡ ls ++ line s b ∷ [] → on ≡ true
+pub take-meaning : (c : State) (s : ℕ) (b : List ℕ) (m : Disk) (ls h : List Line) (on : Bool) (told : ℕ) → Asked c s (length b) → h ≡ ls ++ line s b ∷ [] → on ≡ true
     → m .plate ≡ c .below .plate
     → ((i : ℕ) → over m ls .shows i ≡ over (c .below) (c .held) .shows i)
     → ((i : ℕ) → Nothing-new (over (c .below) (c .held)) (over m ls) i)
-    → Wrote (disk-of c) s b (disk-of (made m h on))
-take-meaning c s b m ls h on a e o p shows old =
+    → Wrote (disk-of c) s b (disk-of (made m h on told))
+take-meaning c s b m ls h on told a e o p shows old =
     let l = line s b in
     let top : over m h ≡ laid (over m ls) l = ap (over m) e ∙ lay.over-push m ls l in
     let up : (i : ℕ) (x : Shown) → Stands (over m h) i x → Stands (laid (over m ls) l) i x = λ i x st. subst (λ (d : Disk). Stands d i x) top st in

@@ -9,7 +9,7 @@ use Rattle.std.specs.declared.option.Option.the-variants.{Some}
 use Rattle.std.specs.declared.result.Result.the-variants.{Ok, Err}
 use Rattle.device.specs.declared.fault.DeviceFault.the-variants.{Power, Misaddressed, Unfit, Spoiled}
 use Rattle.device.specs.Disk.{Disk}
-use Rattle.device.specs.Meaning.{Answer, Addressed, Read, Restart}
+use Rattle.device.specs.Meaning.{Answer, Addressed, Read, Restart, told-after}
 use Rattle.device.specs.Trace.{Act, wrote, settled, Cut, Done, Tries}
 use Rattle.cache.specs.Line.{Line, line, kept, is-held, rewritten}
 use Rattle.cache.specs.State.{State, Fits, Sound}
@@ -67,6 +67,7 @@ pub record From-below (c : State) (s : ℕ) (before : List ℕ) (r : Answer) (c'
   pub read : Read (c .below) s before r (c' .below) after
   pub turns : c' .held ≡ c .held
   pub on : c' .on ≡ on-after r
+  pub told : c' .told ≡ told-after (c .told) r
 
 abbrev pub Reads : State → ℕ → List ℕ → Answer → State → List ℕ → Type 0
 Reads c s before (Ok u) c' after = From-held c s before c' after ⊎ From-below c s before (Ok u) c' after
@@ -82,6 +83,7 @@ pub record Rewrote (c : State) (s : ℕ) (bytes : List ℕ) (c' : State) : Type 
   pub below : c' .below ≡ c .below
   pub turns : c' .held ≡ rewritten s bytes (c .held)
   pub on : c' .on ≡ true
+  pub told : c' .told ≡ c .told
 
 -- There was room: the sector was taken in at the end, with no call below.
 pub record Took (c : State) (s : ℕ) (bytes : List ℕ) (c' : State) : Type 0 where
@@ -91,6 +93,7 @@ pub record Took (c : State) (s : ℕ) (bytes : List ℕ) (c' : State) : Type 0 w
   pub below : c' .below ≡ c .below
   pub turns : c' .held ≡ c .held ++ line s bytes ∷ []
   pub on : c' .on ≡ true
+  pub told : c' .told ≡ c .told
 
 -- There was no room: first the longest held sector was sent down.
 pub record Displaced (c : State) (s : ℕ) (bytes : List ℕ) (c' : State) : Type 0 where
@@ -103,6 +106,7 @@ pub record Displaced (c : State) (s : ℕ) (bytes : List ℕ) (c' : State) : Typ
   pub below : Tries (c .below) (sends oldest ∷ []) (Ok tt) (c' .below)
   pub turns : c' .held ≡ rest ++ line s bytes ∷ []
   pub on : c' .on ≡ true
+  pub told : c' .told ≡ c .told
 
 -- There was no room, and power failed as the longest held sector was sent down.
 pub record Not-displaced (c : State) (s : ℕ) (bytes : List ℕ) (o : ℕ) (c' : State) : Type 0 where
@@ -115,6 +119,7 @@ pub record Not-displaced (c : State) (s : ℕ) (bytes : List ℕ) (o : ℕ) (c' 
   pub below : Sound c → Tries (c .below) (sends oldest ∷ []) (Err (Power o)) (c' .below)
   pub turns : c' .held ≡ c .held
   pub off : c' .on ≡ false
+  pub told : c' .told ≡ o
 
 abbrev pub Writes : State → ℕ → List ℕ → Answer → State → Type 0
 Writes c s bytes (Ok _) c' = Rewrote c s bytes c' ⊎ (Took c s bytes c' ⊎ Displaced c s bytes c')
@@ -129,6 +134,7 @@ pub record Emptied (c : State) (c' : State) : Type 0 where
   pub below : Tries (c .below) (empties (c .held)) (Ok tt) (c' .below)
   pub turns : c' .held ≡ []
   pub on : c' .on ≡ true
+  pub told : c' .told ≡ c .told
 
 -- Some held sectors were sent down, and the next call below was cut by power: the others are left.
 -- (That it was power rests on the others being sectors of the disk, as all are in a sound cache.)
@@ -145,6 +151,7 @@ pub record Not-emptied (c : State) (o : ℕ) (c' : State) : Type 0 where
   pub below : Sound c → Tries (c .below) (empties (c .held)) (Err (Power o)) (c' .below)
   pub turns : Cut-off (c .below) (c .held) o (c' .below) (c' .held)
   pub off : c' .on ≡ false
+  pub told : c' .told ≡ o
 
 abbrev pub Barriers : State → Answer → State → Type 0
 Barriers c (Ok _) c' = Emptied c c'
@@ -158,3 +165,4 @@ pub record Restarts (c : State) (r : Answer) (c' : State) : Type 0 where
   pub below : Restart (c .below) r (c' .below)
   pub turns : c' .held ≡ []
   pub on : c' .on ≡ on-after r
+  pub told : c' .told ≡ told-after (c .told) r

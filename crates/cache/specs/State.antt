@@ -10,15 +10,17 @@ use Rattle.cache.specs.declared.Cache.{Cache}
 use Rattle.cache.specs.Line.{Line}
 use Rattle.cache.specs.Held.{in-turn}
 
--- The disk below, the held sectors, the longest held first, and whether the cache is on.
+-- The disk below, the held sectors, the longest held first, whether the cache is on, and the origin
+-- that it told last.
 pub record State : Type 0 where
   pub below : Disk
   pub held : List Line
   pub on : Bool
+  pub told : ℕ
 
 -- The state of a cache, by what shows the disk of the device below.
 abbrev pub state : {D : Type 0} → (D → Disk) → Cache D → State
-state disk c = record { below = disk (c .below); held = in-turn (c .held); on = c .on }
+state disk c = record { below = disk (c .below); held = in-turn (c .held); on = c .on; told = c .told }
 
 -- A disk with a held sector laid over it: the sector shows the held bytes, and spoiled or what may
 -- stand below may stand there too, since the bytes are yet to be written.
@@ -28,6 +30,7 @@ laid d l = record {
   on = d .on;
   shows = λ i. cond (eqb i (l .sector)) (holds (l .bytes)) (d .shows i);
   others = λ i. cond (eqb i (l .sector)) (spoiled ∷ d .shows i ∷ d .others i) (d .others i);
+  told = d .told;
 }
 
 -- A disk with all the held sectors laid over it, the longest held first.
@@ -46,6 +49,7 @@ disk-of c = record {
   on = c .on;
   shows = over (c .below) (c .held) .shows;
   others = over (c .below) (c .held) .others;
+  told = c .told;
 }
 
 -- Every held sector is one of the disk's.

@@ -29,6 +29,7 @@ pub record Sent-one (c c' : State) : Type 0 where
   pub held : c .held ≡ oldest ∷ c' .held
   pub below : Wrote (c .below) (oldest .sector) (oldest .bytes) (c' .below)
   pub on : c' .on ≡ c .on
+  pub told : c' .told ≡ c .told
 
 pub record Not-sent (c : State) (o : ℕ) (c' : State) : Type 0 where
   pub oldest : Line
@@ -37,6 +38,7 @@ pub record Not-sent (c : State) (o : ℕ) (c' : State) : Type 0 where
   pub turns : c' .held ≡ c .held
   pub below : Fails oldest (c .below) o (c' .below)
   pub on : c' .on ≡ c .on
+  pub told : c' .told ≡ o
 
 abbrev pub Sends-one : State → Answer → State → Type 0
 Sends-one c (Ok _) c' = Sent-one c c'
@@ -50,6 +52,7 @@ pub record Sent-all (c c' : State) : Type 0 where
   pub turns : c' .held ≡ []
   pub done : Done (c .below) (map sends (c .held)) (c' .below)
   pub on : c' .on ≡ c .on
+  pub told : c' .told ≡ c .told
 
 -- Some were, and power failed at the next.
 pub record Stopped (c : State) (o : ℕ) (c' : State) : Type 0 where
@@ -62,6 +65,7 @@ pub record Stopped (c : State) (o : ℕ) (c' : State) : Type 0 where
   pub done : Done (c .below) (map sends sent) between
   pub below : Fails oldest between o (c' .below)
   pub on : c' .on ≡ c .on
+  pub told : c' .told ≡ o
 
 abbrev pub Sends-all : State → Answer → State → Type 0
 Sends-all c (Ok _) c' = Sent-all c c'

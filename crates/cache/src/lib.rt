@@ -12,7 +12,6 @@ mod steps;
 
 use device::Device;
 use device::DeviceFault;
-use device::SECTOR;
 use held::Held;
 use held::SLOTS;
 
@@ -25,6 +24,8 @@ pub struct Cache<D> {
     below: D,
     held: Held,
     on: bool,
+    // The origin handed up where power failed last.
+    told: u8,
 }
 
 impl<D: Device> Cache<D> {
@@ -33,12 +34,14 @@ impl<D: Device> Cache<D> {
         ensures below { λ r. ⌜ r .below ≡ below ⌝ }
         ensures held { λ r. ⌜ in-turn (r .held) ≡ [] ⌝ }
         ensures on { λ r. ⌜ r .on ≡ true ⌝ }
+        ensures told { λ r. ⌜ r .told ≡ 0 ⌝ }
         ensures sound { λ r. ⌜ Sound (state (D·Device .disk) r) ⌝ }
     {
         Cache {
             below,
             held: Held::new(),
             on: true,
+            told: 0,
         }
     }
 }
@@ -58,12 +61,7 @@ pub impl<D: Device> Device for Cache<D> as CacheDevice {
         ensures exact { λ r. ⌜ Reads (state (D·Device .disk) (now (self .entry))) sector (now (buffer .entry)) r (state (D·Device .disk) (now (self .exit))) (now (buffer .exit)) ⌝ }
         ensures sound { λ _. ⌜ (Sound (state (D·Device .disk) (now (self .entry))) → Sound (state (D·Device .disk) (now (self .exit)))) ⌝ }
     {
-        if !self.on {
-            return Err(DeviceFault::Power(ORIGIN));
-        }
-        if sector >= self.sectors() || buffer.len() != SECTOR {
-            return Err(DeviceFault::Misaddressed(sector, ORIGIN));
-        }
+        device::admit(self.on, self.sectors(), ORIGIN, sector, buffer.len())?;
         if self.read_held(sector, buffer) {
             return Ok(());
         }
@@ -75,12 +73,7 @@ pub impl<D: Device> Device for Cache<D> as CacheDevice {
         ensures exact { λ r. ⌜ Writes (state (D·Device .disk) (now (self .entry))) sector (now (bytes .entry)) r (state (D·Device .disk) (now (self .exit))) ⌝ }
         ensures sound { λ _. ⌜ (Sound (state (D·Device .disk) (now (self .entry))) → Sound (state (D·Device .disk) (now (self .exit)))) ⌝ }
     {
-        if !self.on {
-            return Err(DeviceFault::Power(ORIGIN));
-        }
-        if sector >= self.sectors() || bytes.len() != SECTOR {
-            return Err(DeviceFault::Misaddressed(sector, ORIGIN));
-        }
+        device::admit(self.on, self.sectors(), ORIGIN, sector, bytes.len())?;
         if self.held.has(sector) {
             self.rewrite(sector, bytes);
             return Ok(());

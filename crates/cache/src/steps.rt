@@ -1,5 +1,5 @@
 // What a cache does once a call is not refused, and how it sends sectors down.
-ghost use Prim.Native.Nat.{_<_, _≤_};
+ghost use Prim.Native.Nat.{ℕ, _<_, _≤_};
 ghost use Rattle.cache.specs.Exact.{Asked, on-after, From-held, Reads, Rewrote, Took, Writes, Barriers, Restarts};
 ghost use Rattle.cache.specs.Held.{in-turn};
 ghost use Rattle.cache.specs.Line.{Line, is-held};
@@ -43,6 +43,7 @@ impl<D: Device> Cache<D> {
     {
         let answer = self.below.read(sector, buffer);
         self.on = !lost_power(&answer);
+        self.told = device::told_after(self.told, &answer);
         answer
     }
 
@@ -96,20 +97,22 @@ impl<D: Device> Cache<D> {
         // Off until all is settled, so that it stays off where power fails.
         self.on = false;
         self.send_all()?;
-        self.below.barrier()?;
-        self.on = true;
-        Ok(())
+        let answer = self.below.barrier();
+        self.on = answer.is_ok();
+        self.told = device::told_after(self.told, &answer);
+        answer
     }
 
     // Restarts the device below, and is on again where that succeeds. Whatever was held is lost.
     pub(crate) fn restart_below(&mut self) -> Result<(), DeviceFault>
         requires { ⌜ in-turn (now self .held) ≡ [] ⌝ }
-        ensures meaning { λ r. ⌜ ((held : List Line) (on : Bool) → Restart (disk-of (record { below = D·Device .disk (now (self .entry) .below); held = held; on = on })) r (disk-of (state (D·Device .disk) (now (self .exit))))) ⌝ }
+        ensures meaning { λ r. ⌜ ((held : List Line) (on : Bool) (told : ℕ) → Restart (disk-of (record { below = D·Device .disk (now (self .entry) .below); held = held; on = on; told = told })) r (disk-of (state (D·Device .disk) (now (self .exit))))) ⌝ }
         ensures exact { λ r. ⌜ Restarts (state (D·Device .disk) (now (self .entry))) r (state (D·Device .disk) (now (self .exit))) ⌝ }
         ensures sound { λ _. ⌜ Sound (state (D·Device .disk) (now (self .exit))) ⌝ }
     {
         let answer = self.below.restart();
         self.on = answer.is_ok();
+        self.told = device::told_after(self.told, &answer);
         answer
     }
 
@@ -119,15 +122,17 @@ impl<D: Device> Cache<D> {
         ensures { λ r. ⌜ Sends-one (state (D·Device .disk) (now (self .entry))) r (state (D·Device .disk) (now (self .exit))) ⌝ }
     {
         let oldest = self.held.oldest();
-        match self.below.write(oldest.sector, &oldest.bytes) {
+        let origin = match self.below.write(oldest.sector, &oldest.bytes) {
             Ok(()) => {
                 self.held.drop_oldest();
-                Ok(())
+                return Ok(());
             }
-            Err(DeviceFault::Power(origin)) => Err(DeviceFault::Power(origin)),
+            Err(DeviceFault::Power(origin)) => origin,
             // The device below has this sector, which was tested as it was taken in.
-            Err(_) => Err(DeviceFault::Power(0)),
-        }
+            Err(_) => 0,
+        };
+        self.told = origin;
+        Err(DeviceFault::Power(origin))
     }
 
     // Sends all held sectors down, the longest held first.

@@ -1,11 +1,14 @@
 -- What short sequences of device calls leave, done or cut.
-use Prim.Native.Nat.{ℕ}
+use Prim.Native.Nat.{ℕ, _<_, _≤_}
 use mathlib.Core.Path.{_≡_, refl, sym, ap, subst, _∙_}
 use mathlib.Core.Bool.{true, false}
 use mathlib.Core.Logic.{_⊎_, inl, inr, ⊎-elim, _≢_}
 use mathlib.Core.List.{List, [], _∷_}
-use Rattle.device.specs.Disk.{Disk, Shown, spoiled, holds, Among, Stands}
-use Rattle.device.specs.Meaning.{Nothing-new, Quiet, May-write, Lost, Torn, Was-off, Failed, Wrote, Settled, Restarted}
+use native.Mathlib.Omega.{arith}
+use Rattle.std.specs.declared.result.Result.the-variants.{Ok, Err}
+use Rattle.device.specs.declared.fault.DeviceFault.the-variants.{Power, Misaddressed, Unfit, Spoiled}
+use Rattle.device.specs.Disk.{Disk, Plate, Shown, spoiled, holds, Among, Stands}
+use Rattle.device.specs.Meaning.{Answer, Addressed, Nothing-new, Quiet, May-write, Lost, Torn, Was-off, Failed, Wrote, Settled, Restarted, Read}
 use Rattle.device.specs.Trace.{Act, Does, Cut, Done, Cut-short, wrote, settled}
 
 -- plans of one and of two calls, without the ends of their recursion
@@ -26,16 +29,26 @@ cut-two d e a b o (inr (m, h, rest)) = inr (m, h, cut-one m e b o rest)
 pub nothing-new-same : (d e : Disk) → e ≡ d → (i : ℕ) → Nothing-new d e i
 nothing-new-same d e same i x h = subst (λ (v : Disk). Stands v i x) same h
 
--- a device that was off is as one that lost its power
-pub failed-lost : (d e : Disk) (o : ℕ) → Failed d o e → Lost d o e
-failed-lost d e o (inl w) =
+-- What a layer rests on where power failed below it. A device that was off already is off so too,
+-- but what it told last need not be the 0 that it answers now, so this says nothing of that.
+pub record Faded (d : Disk) (o : ℕ) (e : Disk) : Type 0 where
+  pub off : e .on ≡ false
+  pub plate : e .plate ≡ d .plate
+  pub origin : Among o (0 ∷ d .plate .ends)
+  pub old : (i : ℕ) → Nothing-new d e i
+
+pub faded-lost : (d e : Disk) (o : ℕ) → Lost d o e → Faded d o e
+faded-lost d e o w = record { off = w .off; plate = w .plate; origin = w .origin; old = w .old }
+
+pub faded-failed : (d e : Disk) (o : ℕ) → Failed d o e → Faded d o e
+faded-failed d e o (inl w) =
     record {
       off = ap (λ (v : Disk). v .on) (w .same) ∙ w .off;
       plate = ap (λ (v : Disk). v .plate) (w .same);
       origin = inl (w .origin);
       old = nothing-new-same d e (w .same);
     }
-failed-lost d e o (inr (_, lost)) = lost
+faded-failed d e o (inr (_, lost)) = faded-lost d e o lost
 
 -- e may differ from d only in sector s, where these bytes were written, or half written
 pub record Changed (d : Disk) (s : ℕ) (bytes : List ℕ) (e : Disk) : Type 0 where
@@ -73,3 +86,20 @@ settled-old d e w i x h = inl (w .quiet i x h ∙ w .kept i)
 pub cut-origin : (d e : Disk) (s : ℕ) (bytes : List ℕ) (o : ℕ) → Cut (wrote s bytes) d o e → Among o (0 ∷ d .plate .ends)
 cut-origin d e s bytes o (inl w) = inl (w .origin)
 cut-origin d e s bytes o (inr w) = w .origin
+
+-- a sector that is there, and a buffer that fits, are not refused
+pub not-astray : (d : Disk) (s n : ℕ) → Addressed d s n → (d .plate .sectors ≤ s) ⊎ (n ≢ 128) → ⊥
+not-astray d s n a (inl le) = omega (arith, a .there, le)
+not-astray d s n a (inr ne) = ne (a .fits)
+
+-- what is there stays there while the plate does
+pub still-addressed : (d e : Disk) (s n : ℕ) → e .plate ≡ d .plate → Addressed d s n → Addressed e s n
+still-addressed d e s n p a = record { there = subst (λ (q : Plate). s < q .sectors) (sym p) (a .there); fits = a .fits }
+
+-- a read leaves the plate
+pub read-plate : (d e : Disk) (s : ℕ) (before after : List ℕ) (r : Answer) → Read d s before r e after → e .plate ≡ d .plate
+read-plate d e s before after (Ok _) w = ap (λ (x : Disk). x .plate) (w .same)
+read-plate d e s before after (Err (Power o)) w = faded-failed d e o (w .0) .plate
+read-plate d e s before after (Err (Misaddressed t o)) w = ap (λ (x : Disk). x .plate) (w .0 .same)
+read-plate d e s before after (Err Unfit) w = absurd w
+read-plate d e s before after (Err (Spoiled t o)) w = ap (λ (x : Disk). x .plate) (w .same)

@@ -3,13 +3,13 @@ use Prim.Native.Nat.{ℕ, _<_}
 use mathlib.Core.Path.{_≡_, refl, sym, ap, subst, _∙_}
 use mathlib.Core.Logic.{_⊎_, inl, inr, ⊎-elim}
 use mathlib.Core.List.{List, [], _∷_, _++_}
-use native.Mathlib.Omega.{arith}
 use lib.ListN.{length}
 use Rattle.std.specs.declared.result.Result.the-variants.{Ok, Err}
 use Rattle.device.specs.declared.fault.DeviceFault.{DeviceFault}
 use Rattle.device.specs.declared.fault.DeviceFault.the-variants.{Power, Misaddressed, Unfit, Spoiled}
 use Rattle.device.specs.Disk.{Disk}
 use Rattle.device.specs.Meaning.{Answer, Write, Barrier, Restart}
+use Rattle.device.proofs.Changes.{not-astray}
 use Rattle.device.specs.Trace.{Act, looked, wrote, settled, restarted, Does, Cut, Done, Cut-short, Tries}
 
 -- a plan that was done, and then another
@@ -67,7 +67,7 @@ work-cut start here e all rest a (Spoiled s o) w h = absurd h
 pub write-tried : (d e : Disk) (s : ℕ) (bytes : List ℕ) (r : Answer) → s < d .plate .sectors → length bytes ≡ 128 → Write d s bytes r e → Tries d (wrote s bytes ∷ []) r e
 write-tried d e s bytes (Ok u) there fits w = (e, w, refl)
 write-tried d e s bytes (Err (Power o)) there fits w = inl w
-write-tried d e s bytes (Err (Misaddressed t o)) there fits w = absurd (elim (w .why) [ inl h ↦ omega arith | inr h ↦ h fits ])
+write-tried d e s bytes (Err (Misaddressed t o)) there fits w = absurd (not-astray d s (length bytes) (record { there = there; fits = fits }) (w .why))
 write-tried d e s bytes (Err Unfit) there fits w = absurd w
 write-tried d e s bytes (Err (Spoiled t o)) there fits w = absurd w
 

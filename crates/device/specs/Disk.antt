@@ -26,6 +26,8 @@ pub record Disk : Type 0 where
   pub on : Bool
   pub shows : ℕ → Shown
   pub others : ℕ → List Shown
+  -- the origin told by the call in which power failed last
+  pub told : ℕ
 
 -- x is among xs
 abbrev pub Among : {A : Type 0} → A → List A → Type 0

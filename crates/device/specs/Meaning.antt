@@ -39,6 +39,7 @@ pub record Lost (d : Disk) (o : ℕ) (e : Disk) : Type 0 where
   pub off : e .on ≡ false
   pub plate : e .plate ≡ d .plate
   pub origin : Among o (0 ∷ d .plate .ends)
+  pub told : e .told ≡ o
   pub old : (i : ℕ) → Nothing-new d e i
 
 -- Power failed in the writing of these bytes to sector s.
@@ -47,6 +48,7 @@ pub record Torn (d : Disk) (s : ℕ) (bytes : List ℕ) (o : ℕ) (e : Disk) : T
   pub off : e .on ≡ false
   pub plate : e .plate ≡ d .plate
   pub origin : Among o (0 ∷ d .plate .ends)
+  pub told : e .told ≡ o
   pub elsewhere : (i : ℕ) → i ≢ s → Nothing-new d e i
   pub there : (x : Shown) → Stands e s x → May-write d s bytes x
 
@@ -138,6 +140,15 @@ Restart d (Err (Power o)) e = Lost d o e
 Restart d (Err (Misaddressed _ _)) e = ⊥
 Restart d (Err Unfit) e = ⊥
 Restart d (Err (Spoiled _ _)) e = ⊥
+
+-- The origin told last, once a call has answered so, where t was told before it: only failing power
+-- tells another.
+abbrev pub told-after : ℕ → Answer → ℕ
+told-after t (Ok _) = t
+told-after t (Err (Power o)) = o
+told-after t (Err (Misaddressed _ _)) = t
+told-after t (Err Unfit) = t
+told-after t (Err (Spoiled _ _)) = t
 
 -- The tests before any work on sector s with a buffer of n bytes, in their order.
 abbrev pub Admitted : Bool → ℕ → ℕ → ℕ → ℕ → Answer → Type 0

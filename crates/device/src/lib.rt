@@ -1,6 +1,6 @@
 // What a block device promises the code above it, also when power fails.
 ghost use Rattle.device.specs.Disk.{Disk};
-ghost use Rattle.device.specs.Meaning.{Admitted, Read, Write, Barrier, Restart};
+ghost use Rattle.device.specs.Meaning.{Admitted, Read, Write, Barrier, Restart, told-after};
 ghost use mathlib.Core.Path.{_≡_};
 
 mod fault;
@@ -51,4 +51,15 @@ pub fn admit(
         return Err(DeviceFault::Misaddressed(sector, origin));
     }
     Ok(())
+}
+
+// The origin that a layer has told last, once a call below has answered so: where power failed in it,
+// the origin that is handed up; else the one told before.
+pub fn told_after(told: u8, answer: &Result<(), DeviceFault>) -> u8
+    ensures { λ r. ⌜ r ≡ told-after told (now (answer .entry)) ⌝ }
+{
+    match answer {
+        Err(DeviceFault::Power(origin)) => *origin,
+        _ => told,
+    }
 }

@@ -2,13 +2,17 @@
 use Prim.Native.Nat.{ℕ}
 use native.Mathlib.Omega.{arith}
 use mathlib.Core.Path.{_≡_, refl, sym, subst, ap, _∙_}
-use mathlib.Core.Bool.{Bool}
+use mathlib.Core.Bool.{true}
 use mathlib.Core.Logic.{_⊎_, inl, inr, ⊎-elim}
 use mathlib.Core.List.{List, [], _∷_, _++_}
 use Rattle.device.specs.Disk.{Disk, Plate, Shown, spoiled, holds, Among, Stands}
 use Rattle.device.specs.Meaning.{Nothing-new, Quiet}
 use Rattle.device.proofs.Membership.{among-left, among-right, among-split}
 use Rattle.mirror.specs.Sides.{sides, either, merged, mirrored, joined}
+
+-- the mirror, where it is the same whether it is on and what it told last
+abbrev pub both : Disk → Disk → Disk
+both l r = mirrored (sides true 0 l r)
 
 -- x is bytes that may stand left, or may stand right where left may be spoiled
 abbrev pub Found : List Shown → List Shown → Shown → Type 0
@@ -41,9 +45,9 @@ shown-found : (l r : Shown) (ls rs : List Shown) (x : Shown) → x ≡ either l 
 shown-found spoiled r ls rs x e = inr (inl refl, inl e)
 shown-found (holds bytes) r ls rs x e = inl (bytes, e, inl e)
 
-pub stands-found : (on : Bool) (l r : Disk) (i : ℕ) (x : Shown) → Stands (mirrored (sides on l r)) i x → Found (l .shows i ∷ l .others i) (r .shows i ∷ r .others i) x
-stands-found on l r i x (inl e) = shown-found (l .shows i) (r .shows i) (l .others i) (r .others i) x e
-stands-found on l r i x (inr h) = found (l .shows i ∷ l .others i) (r .shows i ∷ r .others i) x h
+pub stands-found : (l r : Disk) (i : ℕ) (x : Shown) → Stands (both l r) i x → Found (l .shows i ∷ l .others i) (r .shows i ∷ r .others i) x
+stands-found l r i x (inl e) = shown-found (l .shows i) (r .shows i) (l .others i) (r .others i) x e
+stands-found l r i x (inr h) = found (l .shows i ∷ l .others i) (r .shows i ∷ r .others i) x h
 
 bytes-merged : (ls rs : List Shown) (x : Shown) (bytes : List ℕ) → x ≡ holds bytes → Among x ls → Among x (merged ls rs)
 bytes-merged [] rs x bytes e h = absurd h
@@ -59,22 +63,22 @@ spoiled-merged (holds c ∷ ls) rs x (inl e) h = absurd (apart spoiled c e refl)
 spoiled-merged (holds c ∷ ls) rs x (inr s) h = inr (spoiled-merged ls rs x s h)
 
 -- and back: what is found so may stand
-pub found-stands : (on : Bool) (l r : Disk) (i : ℕ) (x : Shown) → Found (l .shows i ∷ l .others i) (r .shows i ∷ r .others i) x → Stands (mirrored (sides on l r)) i x
-found-stands on l r i x (inl (bytes, e, a)) = inr (bytes-merged (l .shows i ∷ l .others i) (r .shows i ∷ r .others i) x bytes e a)
-found-stands on l r i x (inr (s, a)) = inr (spoiled-merged (l .shows i ∷ l .others i) (r .shows i ∷ r .others i) x s a)
+pub found-stands : (l r : Disk) (i : ℕ) (x : Shown) → Found (l .shows i ∷ l .others i) (r .shows i ∷ r .others i) x → Stands (both l r) i x
+found-stands l r i x (inl (bytes, e, a)) = inr (bytes-merged (l .shows i ∷ l .others i) (r .shows i ∷ r .others i) x bytes e a)
+found-stands l r i x (inr (s, a)) = inr (spoiled-merged (l .shows i ∷ l .others i) (r .shows i ∷ r .others i) x s a)
 
 -- nothing new on either side is nothing new in the mirror
-pub nothing-new : (on on′ : Bool) (l r l′ r′ : Disk) (i : ℕ) → Nothing-new l l′ i → Nothing-new r r′ i → Nothing-new (mirrored (sides on l r)) (mirrored (sides on′ l′ r′)) i
-nothing-new on on′ l r l′ r′ i left right x h =
-    elim (stands-found on′ l′ r′ i x h) [
-      | inl a ↦ found-stands on l r i x (inl (a .0, a .1, left x (a .2)))
-      | inr a ↦ found-stands on l r i x (inr (left spoiled (a .0), right x (a .1)))
+pub nothing-new : (l r l′ r′ : Disk) (i : ℕ) → Nothing-new l l′ i → Nothing-new r r′ i → Nothing-new (both l r) (both l′ r′) i
+nothing-new l r l′ r′ i left right x h =
+    elim (stands-found l′ r′ i x h) [
+      | inl a ↦ found-stands l r i x (inl (a .0, a .1, left x (a .2)))
+      | inr a ↦ found-stands l r i x (inr (left spoiled (a .0), right x (a .1)))
     ]
 
 -- two quiet sides are a quiet mirror
-pub quiet-both : (on : Bool) (l r : Disk) → Quiet l → Quiet r → Quiet (mirrored (sides on l r))
-quiet-both on l r left right i x h =
-    elim (stands-found on l r i x h) [
+pub quiet-both : (l r : Disk) → Quiet l → Quiet r → Quiet (both l r)
+quiet-both l r left right i x h =
+    elim (stands-found l r i x h) [
       | inl a ↦ shown-bytes (l .shows i) (r .shows i) x (a .0) (a .1) (left i x (a .2))
       | inr a ↦ shown-right (l .shows i) (r .shows i) x (left i spoiled (a .0)) (right i x (a .1))
     ]

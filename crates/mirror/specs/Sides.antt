@@ -10,14 +10,15 @@ use Rattle.device.specs.Disk.{Disk, Plate, Shown, spoiled, holds}
 use Rattle.device.specs.Meaning.{Answer, Read}
 use Rattle.device.specs.Trace.{wrote, settled, restarted, In-turn}
 
--- The two sides, and whether the mirror itself is on.
+-- The two sides, whether the mirror itself is on, and the origin that it told last.
 pub record Sides : Type 0 where
   pub on : Bool
+  pub told : ℕ
   pub left : Disk
   pub right : Disk
 
-abbrev pub sides : Bool → Disk → Disk → Sides
-sides on left right = record { on = on; left = left; right = right }
+abbrev pub sides : Bool → ℕ → Disk → Disk → Sides
+sides on told left right = record { on = on; told = told; left = left; right = right }
 
 -- What is shown: the left side's bytes, or what the right side shows where the left is spoiled.
 abbrev pub either : Shown → Shown → Shown
@@ -50,6 +51,7 @@ mirrored m =
       on = m .on;
       shows = λ i. either (m .left .shows i) (m .right .shows i);
       others = λ i. merged (m .left .shows i ∷ m .left .others i) (m .right .shows i ∷ m .right .others i);
+      told = m .told;
     }
 
 -- A write goes to the right side and is settled there before the left side is touched.
@@ -82,13 +84,14 @@ abbrev pub Idle : Sides → ℕ → Sides → Type 0
 Idle m o m′ = (m .on ≡ false) × (o ≡ 0) × (m′ ≡ m)
 
 -- A call of the mirror: while off, or where it refuses the sector or the buffer, neither side is
--- touched; else `work` says what was done on the sides. Power that fails there turns it off.
+-- touched; else `work` says what was done on the sides. Power that fails there turns it off, and the
+-- origin that is handed up is the one told last.
 abbrev pub Worked : (Sides → Answer → Sides → Type 0) → Sides → Answer → Sides → Type 0
-Worked work m (Ok u) m′ = (m .on ≡ true) × (m′ .on ≡ true) × work m (Ok u) m′
-Worked work m (Err (Power o)) m′ = Idle m o m′ ⊎ ((m .on ≡ true) × (m′ .on ≡ false) × work m (Err (Power o)) m′)
+Worked work m (Ok u) m′ = (m .on ≡ true) × (m′ .on ≡ true) × (m′ .told ≡ m .told) × work m (Ok u) m′
+Worked work m (Err (Power o)) m′ = Idle m o m′ ⊎ ((m .on ≡ true) × (m′ .on ≡ false) × (m′ .told ≡ o) × work m (Err (Power o)) m′)
 Worked work m (Err (Misaddressed _ _)) m′ = m′ ≡ m
 Worked work m (Err Unfit) m′ = ⊥
-Worked work m (Err (Spoiled s o)) m′ = (m .on ≡ true) × (m′ .on ≡ true) × work m (Err (Spoiled s o)) m′
+Worked work m (Err (Spoiled s o)) m′ = (m .on ≡ true) × (m′ .on ≡ true) × (m′ .told ≡ m .told) × work m (Err (Spoiled s o)) m′
 
 -- Whether the mirror is on after this answer of its sides: only failing power turns it off.
 abbrev pub stays : Answer → Bool

@@ -1,7 +1,7 @@
 // A mirror: two devices that hold the same, so that a sector spoiled on one is read from the other.
 ghost use Prim.Native.Nat.{_<_, min};
 ghost use Rattle.device.specs.Disk.{Disk};
-ghost use Rattle.device.specs.Meaning.{Read, Write, Barrier, Restart};
+ghost use Rattle.device.specs.Meaning.{Read, Write, Barrier, Restart, told-after};
 ghost use Rattle.mirror.specs.View.{view};
 ghost use Rattle.mirror.specs.Sides.{mirrored, Writes, Settles, Restarts, Reads, Worked, stays};
 ghost use lib.ListN.{length};
@@ -24,16 +24,19 @@ pub struct Mirror<L, R> {
     left: L,
     right: R,
     on: bool,
+    // The origin handed up where power failed last.
+    told: u8,
 }
 
 impl<L: Device, R: Device> Mirror<L, R> {
     pub fn new(left: L, right: R) -> Self
-        ensures { λ m. ⌜ (m .left ≡ left) × (m .right ≡ right) × (m .on ≡ true) ⌝ }
+        ensures { λ m. ⌜ (m .left ≡ left) × (m .right ≡ right) × (m .on ≡ true) × (m .told ≡ 0) ⌝ }
     {
         Mirror {
             left,
             right,
             on: true,
+            told: 0,
         }
     }
 }
@@ -52,6 +55,7 @@ pub impl<L: Device, R: Device> Device for Mirror<L, R> as MirrorDevice {
         device::admit(self.on, self.sectors(), 0, sector, buffer.len())?;
         let answer = read_either(&mut self.left, &mut self.right, sector, buffer);
         self.on = powered(&answer);
+        self.told = device::told_after(self.told, &answer);
         answer
     }
 
@@ -62,6 +66,7 @@ pub impl<L: Device, R: Device> Device for Mirror<L, R> as MirrorDevice {
         device::admit(self.on, self.sectors(), 0, sector, bytes.len())?;
         let answer = write_both(&mut self.left, &mut self.right, sector, bytes);
         self.on = powered(&answer);
+        self.told = device::told_after(self.told, &answer);
         answer
     }
 
@@ -74,15 +79,17 @@ pub impl<L: Device, R: Device> Device for Mirror<L, R> as MirrorDevice {
         }
         let answer = settle_both(&mut self.left, &mut self.right);
         self.on = powered(&answer);
+        self.told = device::told_after(self.told, &answer);
         answer
     }
 
     fn restart(&mut self) -> Result<(), DeviceFault>
         ensures meaning { λ r. ⌜ Restart (mirrored (view L·Device R·Device (now (self .entry)))) r (mirrored (view L·Device R·Device (now (self .exit)))) ⌝ }
-        ensures exact { λ r. ⌜ Restarts (view L·Device R·Device (now (self .entry))) r (view L·Device R·Device (now (self .exit))) × (now (self .exit) .on ≡ stays r) ⌝ }
+        ensures exact { λ r. ⌜ Restarts (view L·Device R·Device (now (self .entry))) r (view L·Device R·Device (now (self .exit))) × (now (self .exit) .on ≡ stays r) × (now (self .exit) .told ≡ told-after (now (self .entry) .told) r) ⌝ }
     {
         let answer = restart_both(&mut self.left, &mut self.right);
         self.on = powered(&answer);
+        self.told = device::told_after(self.told, &answer);
         answer
     }
 }

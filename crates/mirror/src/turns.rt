@@ -1,6 +1,6 @@
 // Work on the two sides of a mirror in its order, and what the mirror is then as one device.
-ghost use Prim.Native.Nat.{_<_};
-ghost use Rattle.device.specs.Meaning.{Read, Write, Barrier, Restart};
+ghost use Prim.Native.Nat.{ℕ, _<_};
+ghost use Rattle.device.specs.Meaning.{Read, Write, Barrier, Restart, told-after};
 ghost use Rattle.device.specs.Trace.{In-turn, wrote, settled, restarted};
 ghost use Rattle.mirror.specs.Sides.{sides, mirrored, Writes, Settles, Restarts, Reads, Worked, stays};
 ghost use lib.ListN.{length};
@@ -61,7 +61,7 @@ fn ask_in_turn<L: Device, R: Device>(
 ) -> Result<(), DeviceFault>
     requires { ⌜ sector < L·Device .disk (now left) .plate .sectors ⌝ }
     requires { ⌜ length (now buffer) ≡ 128 ⌝ }
-    ensures { λ r. ⌜ Reads sector (now (buffer .entry)) (now (buffer .exit)) (sides true (L·Device .disk (now (left .entry))) (R·Device .disk (now (right .entry)))) r (sides (stays r) (L·Device .disk (now (left .exit))) (R·Device .disk (now (right .exit)))) ⌝ }
+    ensures { λ r. ⌜ Reads sector (now (buffer .entry)) (now (buffer .exit)) (sides true 0 (L·Device .disk (now (left .entry))) (R·Device .disk (now (right .entry)))) r (sides true 0 (L·Device .disk (now (left .exit))) (R·Device .disk (now (right .exit)))) ⌝ }
 {
     match left.read(sector, buffer) {
         Err(DeviceFault::Spoiled(_, _)) => right.read(sector, buffer),
@@ -79,22 +79,22 @@ pub fn write_both<L: Device, R: Device>(
     requires in_left { ⌜ sector < L·Device .disk (now left) .plate .sectors ⌝ }
     requires in_right { ⌜ sector < R·Device .disk (now right) .plate .sectors ⌝ }
     requires whole { ⌜ length (now bytes) ≡ 128 ⌝ }
-    ensures meaning { λ r. ⌜ ((on : Bool) → on ≡ true → Write (mirrored (sides on (L·Device .disk (now (left .entry))) (R·Device .disk (now (right .entry))))) sector (now (bytes .entry)) r (mirrored (sides (stays r) (L·Device .disk (now (left .exit))) (R·Device .disk (now (right .exit)))))) ⌝ }
-    ensures order { λ r. ⌜ ((on : Bool) → on ≡ true → Worked (Writes sector (now (bytes .entry))) (sides on (L·Device .disk (now (left .entry))) (R·Device .disk (now (right .entry)))) r (sides (stays r) (L·Device .disk (now (left .exit))) (R·Device .disk (now (right .exit))))) ⌝ }
+    ensures meaning { λ r. ⌜ ((on : Bool) (told : ℕ) → on ≡ true → Write (mirrored (sides on told (L·Device .disk (now (left .entry))) (R·Device .disk (now (right .entry))))) sector (now (bytes .entry)) r (mirrored (sides (stays r) (told-after told r) (L·Device .disk (now (left .exit))) (R·Device .disk (now (right .exit)))))) ⌝ }
+    ensures order { λ r. ⌜ ((on : Bool) (told : ℕ) → on ≡ true → Worked (Writes sector (now (bytes .entry))) (sides on told (L·Device .disk (now (left .entry))) (R·Device .disk (now (right .entry)))) r (sides (stays r) (told-after told r) (L·Device .disk (now (left .exit))) (R·Device .disk (now (right .exit))))) ⌝ }
 {
     write_in_turn(right, left, sector, bytes)
 }
 
 pub fn settle_both<L: Device, R: Device>(left: &mut L, right: &mut R) -> Result<(), DeviceFault>
-    ensures meaning { λ r. ⌜ ((on : Bool) → on ≡ true → Barrier (mirrored (sides on (L·Device .disk (now (left .entry))) (R·Device .disk (now (right .entry))))) r (mirrored (sides (stays r) (L·Device .disk (now (left .exit))) (R·Device .disk (now (right .exit)))))) ⌝ }
-    ensures order { λ r. ⌜ ((on : Bool) → on ≡ true → Worked Settles (sides on (L·Device .disk (now (left .entry))) (R·Device .disk (now (right .entry)))) r (sides (stays r) (L·Device .disk (now (left .exit))) (R·Device .disk (now (right .exit))))) ⌝ }
+    ensures meaning { λ r. ⌜ ((on : Bool) (told : ℕ) → on ≡ true → Barrier (mirrored (sides on told (L·Device .disk (now (left .entry))) (R·Device .disk (now (right .entry))))) r (mirrored (sides (stays r) (told-after told r) (L·Device .disk (now (left .exit))) (R·Device .disk (now (right .exit)))))) ⌝ }
+    ensures order { λ r. ⌜ ((on : Bool) (told : ℕ) → on ≡ true → Worked Settles (sides on told (L·Device .disk (now (left .entry))) (R·Device .disk (now (right .entry)))) r (sides (stays r) (told-after told r) (L·Device .disk (now (left .exit))) (R·Device .disk (now (right .exit))))) ⌝ }
 {
     settle_in_turn(right, left)
 }
 
 pub fn restart_both<L: Device, R: Device>(left: &mut L, right: &mut R) -> Result<(), DeviceFault>
-    ensures meaning { λ r. ⌜ ((on : Bool) → Restart (mirrored (sides on (L·Device .disk (now (left .entry))) (R·Device .disk (now (right .entry))))) r (mirrored (sides (stays r) (L·Device .disk (now (left .exit))) (R·Device .disk (now (right .exit)))))) ⌝ }
-    ensures order { λ r. ⌜ Restarts (sides true (L·Device .disk (now (left .entry))) (R·Device .disk (now (right .entry)))) r (sides (stays r) (L·Device .disk (now (left .exit))) (R·Device .disk (now (right .exit)))) ⌝ }
+    ensures meaning { λ r. ⌜ ((on : Bool) (told : ℕ) → Restart (mirrored (sides on told (L·Device .disk (now (left .entry))) (R·Device .disk (now (right .entry))))) r (mirrored (sides (stays r) (told-after told r) (L·Device .disk (now (left .exit))) (R·Device .disk (now (right .exit)))))) ⌝ }
+    ensures order { λ r. ⌜ Restarts (sides true 0 (L·Device .disk (now (left .entry))) (R·Device .disk (now (right .entry)))) r (sides true 0 (L·Device .disk (now (left .exit))) (R·Device .disk (now (right .exit)))) ⌝ }
 {
     restart_in_turn(right, left)
 }
@@ -108,8 +108,8 @@ pub fn read_either<L: Device, R: Device>(
     requires in_left { ⌜ sector < L·Device .disk (now left) .plate .sectors ⌝ }
     requires in_right { ⌜ sector < R·Device .disk (now right) .plate .sectors ⌝ }
     requires whole { ⌜ length (now buffer) ≡ 128 ⌝ }
-    ensures meaning { λ r. ⌜ ((on : Bool) → on ≡ true → Read (mirrored (sides on (L·Device .disk (now (left .entry))) (R·Device .disk (now (right .entry))))) sector (now (buffer .entry)) r (mirrored (sides (stays r) (L·Device .disk (now (left .exit))) (R·Device .disk (now (right .exit))))) (now (buffer .exit))) ⌝ }
-    ensures order { λ r. ⌜ ((on : Bool) → on ≡ true → Worked (Reads sector (now (buffer .entry)) (now (buffer .exit))) (sides on (L·Device .disk (now (left .entry))) (R·Device .disk (now (right .entry)))) r (sides (stays r) (L·Device .disk (now (left .exit))) (R·Device .disk (now (right .exit))))) ⌝ }
+    ensures meaning { λ r. ⌜ ((on : Bool) (told : ℕ) → on ≡ true → Read (mirrored (sides on told (L·Device .disk (now (left .entry))) (R·Device .disk (now (right .entry))))) sector (now (buffer .entry)) r (mirrored (sides (stays r) (told-after told r) (L·Device .disk (now (left .exit))) (R·Device .disk (now (right .exit))))) (now (buffer .exit))) ⌝ }
+    ensures order { λ r. ⌜ ((on : Bool) (told : ℕ) → on ≡ true → Worked (Reads sector (now (buffer .entry)) (now (buffer .exit))) (sides on told (L·Device .disk (now (left .entry))) (R·Device .disk (now (right .entry)))) r (sides (stays r) (told-after told r) (L·Device .disk (now (left .exit))) (R·Device .disk (now (right .exit))))) ⌝ }
 {
     ask_in_turn(left, right, sector, buffer)
 }

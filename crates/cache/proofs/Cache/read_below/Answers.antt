@@ -13,7 +13,7 @@ returns g c =
     let r = c .read-answer .result in
     let e = disk (c .read-answer .last .self) in
     record {
-      meaning = read-below-meaning (state disk self) (c .args .sector) b r e (c .read-answer .last .buffer) _ (c .pre .0) (c .pre .1) (sym (c .lost-power .ensures)) (c .read-answer .ensures);
-      exact = read-below-exact (state disk self) (c .args .sector) b r e (c .read-answer .last .buffer) _ (c .pre .0) (c .pre .1) (sym (c .lost-power .ensures)) (c .read-answer .ensures);
+      meaning = read-below-meaning (state disk self) (c .args .sector) b r e (c .read-answer .last .buffer) _ _ (c .pre .0) (c .pre .1) (sym (c .lost-power .ensures)) (c .told-after-self .ensures) (c .read-answer .ensures);
+      exact = read-below-exact (state disk self) (c .args .sector) b r e (c .read-answer .last .buffer) _ _ (c .pre .0) (c .pre .1) (sym (c .lost-power .ensures)) (c .told-after-self .ensures) (c .read-answer .ensures);
       sound = read-below-sound (disk (self .below)) (c .args .sector) b r e (c .read-answer .last .buffer) (in-turn (self .held)) (c .read-answer .ensures);
     }

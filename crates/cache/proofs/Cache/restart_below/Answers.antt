@@ -12,7 +12,7 @@ returns g c =
     let h = in-turn (self .held) in
     let r = c .restart-answer .result in
     record {
-      meaning = λ held on. restart-meaning (made (disk (self .below)) held on) r e h (c .is-ok-self .result) (c .pre) (c .is-ok-self .ensures .value) (c .restart-answer .ensures);
-      exact = restart-exact (state disk self) r e h (c .is-ok-self .result) (c .pre) (c .is-ok-self .ensures .value) (c .restart-answer .ensures);
+      meaning = λ held on told. restart-meaning (made (disk (self .below)) held on told) r e h (c .is-ok-self .result) (self .told) (c .told-after-self .result) (c .pre) (c .is-ok-self .ensures .value) (c .told-after-self .ensures) (c .restart-answer .ensures);
+      exact = restart-exact (state disk self) r e h (c .is-ok-self .result) (c .told-after-self .result) (c .pre) (c .is-ok-self .ensures .value) (c .told-after-self .ensures) (c .restart-answer .ensures);
       sound = sound-none e h (c .pre);
     }

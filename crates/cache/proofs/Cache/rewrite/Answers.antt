@@ -15,6 +15,6 @@ returns g c =
     let e : h ≡ rewritten (c .args .sector) b (s .held) = c .rewrite .ensures ∙ ap (λ (l : Line). rewritten (l .sector) (l .bytes) (s .held)) (c .new .ensures) in
     record {
       meaning = rewrite-meaning s (c .args .sector) b h (c .pre .0) (c .pre .1) e;
-      exact = record { asked = c .pre .0; found = c .pre .1; below = refl; turns = e; on = c .pre .0 .on };
+      exact = record { asked = c .pre .0; found = c .pre .1; below = refl; turns = e; on = c .pre .0 .on; told = refl };
       sound = rewrite-sound s (c .args .sector) b h (c .pre .0) e;
     }

@@ -15,7 +15,7 @@ returns g c =
     let h = in-turn (c .push .last .self) in
     let e : h ≡ s .held ++ line (c .args .sector) b ∷ [] = c .push .ensures ∙ ap (λ (l : Line). s .held ++ l ∷ []) (c .new .ensures) in
     record {
-      meaning = take-meaning s (c .args .sector) b (s .below) (s .held) h (s .on) (c .pre .0) e (c .pre .0 .on) refl (λ i. refl) (λ i x st. st);
-      exact = record { asked = c .pre .0; absent = c .pre .1; room = c .pre .2; below = refl; turns = e; on = c .pre .0 .on };
+      meaning = take-meaning s (c .args .sector) b (s .below) (s .held) h (s .on) (s .told) (c .pre .0) e (c .pre .0 .on) refl (λ i. refl) (λ i x st. st);
+      exact = record { asked = c .pre .0; absent = c .pre .1; room = c .pre .2; below = refl; turns = e; on = c .pre .0 .on; told = refl };
       sound = take-sound s (c .args .sector) b (s .below) (s .held) h (c .pre .0) e refl;
     }
