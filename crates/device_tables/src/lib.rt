@@ -72,7 +72,7 @@ fn write<D: Device>(device: &mut D, sector: usize, byte: u8, length: usize) -> R
 }
 
 // Makes one call of the device.
-pub fn play<D: Device>(device: &mut D, call: Call) -> Reply {
+pub(crate) fn play<D: Device>(device: &mut D, call: Call) -> Reply {
     match call {
         Call::Count => Reply::Sectors(device.sectors()),
         Call::Read(sector) => read(device, sector, SECTOR),

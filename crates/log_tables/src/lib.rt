@@ -11,7 +11,7 @@ pub struct Counted<D> {
 }
 
 impl<D: Device> Counted<D> {
-    pub fn new(below: D) -> Self
+    pub(crate) fn new(below: D) -> Self
         ensures { λ c. ⌜ (c .below ≡ below) × (c .reads ≡ 0) ⌝ }
     {
         Counted { below, reads: 0 }

@@ -11,7 +11,7 @@ use device::Device;
 use device::DeviceFault;
 
 // Whether the mirror is still on after this answer of its sides.
-pub fn powered(answer: &Result<(), DeviceFault>) -> bool
+pub(crate) fn powered(answer: &Result<(), DeviceFault>) -> bool
     ensures { λ r. ⌜ r ≡ stays (now (answer .entry)) ⌝ }
 {
     match answer {
@@ -70,7 +70,7 @@ fn ask_in_turn<L: Device, R: Device>(
 }
 
 // The four below do the same for a mirror's own two sides, and say what the mirror then is.
-pub fn write_both<L: Device, R: Device>(
+pub(crate) fn write_both<L: Device, R: Device>(
     left: &mut L,
     right: &mut R,
     sector: usize,
@@ -85,21 +85,27 @@ pub fn write_both<L: Device, R: Device>(
     write_in_turn(right, left, sector, bytes)
 }
 
-pub fn settle_both<L: Device, R: Device>(left: &mut L, right: &mut R) -> Result<(), DeviceFault>
+pub(crate) fn settle_both<L: Device, R: Device>(
+    left: &mut L,
+    right: &mut R,
+) -> Result<(), DeviceFault>
     ensures meaning { λ r. ⌜ ((on : Bool) (told : ℕ) → on ≡ true → Barrier (mirrored (sides on told (L·Device .disk (now (left .entry))) (R·Device .disk (now (right .entry))))) r (mirrored (sides (stays r) (told-after told r) (L·Device .disk (now (left .exit))) (R·Device .disk (now (right .exit)))))) ⌝ }
     ensures order { λ r. ⌜ ((on : Bool) (told : ℕ) → on ≡ true → Worked Settles (sides on told (L·Device .disk (now (left .entry))) (R·Device .disk (now (right .entry)))) r (sides (stays r) (told-after told r) (L·Device .disk (now (left .exit))) (R·Device .disk (now (right .exit))))) ⌝ }
 {
     settle_in_turn(right, left)
 }
 
-pub fn restart_both<L: Device, R: Device>(left: &mut L, right: &mut R) -> Result<(), DeviceFault>
+pub(crate) fn restart_both<L: Device, R: Device>(
+    left: &mut L,
+    right: &mut R,
+) -> Result<(), DeviceFault>
     ensures meaning { λ r. ⌜ ((on : Bool) (told : ℕ) → Restart (mirrored (sides on told (L·Device .disk (now (left .entry))) (R·Device .disk (now (right .entry))))) r (mirrored (sides (stays r) (told-after told r) (L·Device .disk (now (left .exit))) (R·Device .disk (now (right .exit)))))) ⌝ }
     ensures order { λ r. ⌜ Restarts (sides true 0 (L·Device .disk (now (left .entry))) (R·Device .disk (now (right .entry)))) r (sides true 0 (L·Device .disk (now (left .exit))) (R·Device .disk (now (right .exit)))) ⌝ }
 {
     restart_in_turn(right, left)
 }
 
-pub fn read_either<L: Device, R: Device>(
+pub(crate) fn read_either<L: Device, R: Device>(
     left: &mut L,
     right: &mut R,
     sector: usize,

@@ -3,7 +3,7 @@ ghost use Rattle.record.specs.Fields.{value, digits};
 ghost use lib.ListN.{length};
 ghost use mathlib.Core.Path.{_≡_};
 
-pub fn long(bytes: &[u8]) -> u64
+pub(crate) fn long(bytes: &[u8]) -> u64
     requires { ⌜ length (now bytes) ≡ 8 ⌝ }
     ensures { λ r. ⌜ r ≡ value (now (bytes .entry)) ⌝ }
 {
@@ -19,20 +19,20 @@ pub fn long(bytes: &[u8]) -> u64
     ])
 }
 
-pub fn short(bytes: &[u8]) -> u16
+pub(crate) fn short(bytes: &[u8]) -> u16
     requires { ⌜ length (now bytes) ≡ 2 ⌝ }
     ensures { λ r. ⌜ r ≡ value (now (bytes .entry)) ⌝ }
 {
     u16::from_le_bytes([bytes[0], bytes[1]])
 }
 
-pub fn eight(number: u64) -> [u8; 8]
+pub(crate) fn eight(number: u64) -> [u8; 8]
     ensures { λ r. ⌜ r ≡ digits 8 number ⌝ }
 {
     number.to_le_bytes()
 }
 
-pub fn two(number: u16) -> [u8; 2]
+pub(crate) fn two(number: u16) -> [u8; 2]
     ensures { λ r. ⌜ r ≡ digits 2 number ⌝ }
 {
     number.to_le_bytes()

@@ -37,7 +37,7 @@ pub struct Label {
 }
 
 // The label of a sector.
-pub fn label_in(sector: &[u8]) -> Label
+pub(crate) fn label_in(sector: &[u8]) -> Label
     requires { ⌜ length (now sector) ≡ 128 ⌝ }
     ensures { λ r. ⌜ Says (now (sector .entry)) r ⌝ }
 {
@@ -56,7 +56,7 @@ pub fn label_in(sector: &[u8]) -> Label
 }
 
 // Whether a record with this head may stand at this place of a log of so many sectors.
-pub fn placed(head: Head, place: usize, places: usize) -> bool
+pub(crate) fn placed(head: Head, place: usize, places: usize) -> bool
     ensures only { λ r. ⌜ (T r → Placed places place (head .serial) (head .low) (head .ordinal)) ⌝ }
     ensures all { λ r. ⌜ (Placed places place (head .serial) (head .low) (head .ordinal) → T r) ⌝ }
 {
@@ -80,7 +80,7 @@ fn within(page: u16, offset: u16, length: usize) -> bool
 }
 
 // Whether page, offset and length keep the rule of their kind.
-pub fn fits(kind: u8, page: u16, offset: u16, length: usize) -> bool
+pub(crate) fn fits(kind: u8, page: u16, offset: u16, length: usize) -> bool
     ensures only { λ r. ⌜ (T r → Fits kind page offset length) ⌝ }
     ensures all { λ r. ⌜ (Fits kind page offset length → T r) ⌝ }
 {

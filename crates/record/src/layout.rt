@@ -72,7 +72,7 @@ fn put_bytes(sector: &mut [u8], bytes: &[u8])
 }
 
 // Lays the record with this label and these bytes out.
-pub fn lay_out(sector: &mut [u8], label: Label, bytes: &[u8])
+pub(crate) fn lay_out(sector: &mut [u8], label: Label, bytes: &[u8])
     requires { ⌜ length (now sector) ≡ 128 ⌝ ∗ ⌜ label .length ≤ 96 ⌝ ∗ ⌜ length (now bytes) ≡ label .length ⌝ }
     ensures { λ _. ⌜ now (sector .exit) ≡ laid-out (spelled label (now (bytes .entry))) ⌝ }
 {

@@ -28,7 +28,11 @@ fn blank_strays<D: Device>(device: &mut D, notes: &[Note], last: u64) -> Result<
 }
 
 // Clears the strays and settles that, so that none of them is found again. Says how many there were.
-pub fn clear<D: Device>(device: &mut D, notes: &[Note], last: u64) -> Result<usize, DeviceFault>
+pub(crate) fn clear<D: Device>(
+    device: &mut D,
+    notes: &[Note],
+    last: u64,
+) -> Result<usize, DeviceFault>
     requires room { ⌜ length (now notes) ≤ D·Device .disk (now device) .plate .sectors ⌝ }
     requires noted { ⌜ Noted (length (now notes)) (D·Device .disk (now device) .shows) (now notes) ⌝ }
     ensures { λ r. ⌜ Yields (D·Device .disk (now (device .entry))) (clearing (length (now (notes .entry))) (D·Device .disk (now (device .entry)) .shows) last) (λ count. count ≡ strays (length (now (notes .entry))) (D·Device .disk (now (device .entry)) .shows) last (length (now (notes .entry)))) r (D·Device .disk (now (device .exit))) ⌝ }

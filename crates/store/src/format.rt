@@ -13,7 +13,7 @@ use record::Head;
 use record::Record;
 
 // Writes zeros over the first `sectors` sectors, the lowest first.
-pub fn zero_all<D: Device>(device: &mut D, sectors: usize) -> Result<(), DeviceFault>
+pub(crate) fn zero_all<D: Device>(device: &mut D, sectors: usize) -> Result<(), DeviceFault>
     requires { ⌜ sectors ≤ D·Device .disk (now device) .plate .sectors ⌝ }
     ensures { λ r. ⌜ Tries (D·Device .disk (now (device .entry))) (zeroing 0 sectors) r (D·Device .disk (now (device .exit))) ⌝ }
 {
@@ -24,7 +24,7 @@ pub fn zero_all<D: Device>(device: &mut D, sectors: usize) -> Result<(), DeviceF
     Ok(())
 }
 
-pub fn serial_of(record: &Record) -> u64
+pub(crate) fn serial_of(record: &Record) -> u64
     ensures { λ r. ⌜ r ≡ entry (now («record» .entry)) .serial ⌝ }
 {
     match *record {
@@ -35,7 +35,7 @@ pub fn serial_of(record: &Record) -> u64
 }
 
 // Writes a record in its place of the log.
-pub fn write_record<D: Device>(
+pub(crate) fn write_record<D: Device>(
     device: &mut D,
     places: usize,
     record: &Record,
@@ -51,7 +51,11 @@ pub fn write_record<D: Device>(
 }
 
 // Writes a mark in its place of the log.
-pub fn write_mark<D: Device>(device: &mut D, places: usize, head: Head) -> Result<(), DeviceFault>
+pub(crate) fn write_mark<D: Device>(
+    device: &mut D,
+    places: usize,
+    head: Head,
+) -> Result<(), DeviceFault>
     requires some { ⌜ 1 ≤ places ⌝ }
     requires room { ⌜ places ≤ D·Device .disk (now device) .plate .sectors ⌝ }
     ensures { λ r. ⌜ Tries (D·Device .disk (now (device .entry))) (wrote (head .serial % places) (laid-out (mark head)) ∷ []) r (D·Device .disk (now (device .exit))) ⌝ }
@@ -85,7 +89,7 @@ fn begin_log<D: Device>(device: &mut D, places: usize) -> Result<(), DeviceFault
 }
 
 // Makes a new log of so many sectors, with the homes after it: zeros everywhere, and one mark.
-pub fn format_device<D: Device>(
+pub(crate) fn format_device<D: Device>(
     device: &mut D,
     places: usize,
     sectors: usize,

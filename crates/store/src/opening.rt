@@ -70,7 +70,7 @@ fn recover<D: Device>(
 }
 
 // How many sectors of a device are its log's, the last 64 being homes.
-pub fn places_of(sectors: usize) -> Result<usize, StoreFault>
+pub(crate) fn places_of(sectors: usize) -> Result<usize, StoreFault>
     ensures { λ r. ⌜ Divided sectors r ⌝ }
 {
     if sectors < 224 || sectors > 1088 {
@@ -96,7 +96,7 @@ fn recover_places<D: Device>(
 }
 
 // Opens a device, on or off: restarts it, and recovers its log into the memory.
-pub fn open_device<D: Device>(
+pub(crate) fn open_device<D: Device>(
     device: &mut D,
     memory: &mut [u8],
 ) -> Result<(Survey, usize), StoreFault>

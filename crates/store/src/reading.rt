@@ -18,7 +18,7 @@ use journal::look_at;
 use record::Record;
 
 // Reads a sector; false where it is spoiled, and then the buffer is as it was.
-pub fn fetch<D: Device>(
+pub(crate) fn fetch<D: Device>(
     device: &mut D,
     sector: usize,
     buffer: &mut [u8],
@@ -35,7 +35,7 @@ pub fn fetch<D: Device>(
 }
 
 // Puts bytes into memory from `place` on.
-pub fn put_bytes(memory: &mut [u8], place: usize, bytes: &[u8])
+pub(crate) fn put_bytes(memory: &mut [u8], place: usize, bytes: &[u8])
     requires { ⌜ place + length (now bytes) ≤ length (now memory) ⌝ }
     ensures { λ _. ⌜ ((i : ℕ) → getD (now (memory .exit)) i 0 ≡ overlaid place (now (bytes .entry)) i (getD (now (memory .entry)) i 0)) ⌝ }
 {
@@ -63,7 +63,7 @@ fn load_home<D: Device>(
 
 // Starts every page from its home, the lowest first. Answers a page whose home is spoiled and that no
 // record covers, where there is one.
-pub fn load_homes<D: Device>(
+pub(crate) fn load_homes<D: Device>(
     device: &mut D,
     places: usize,
     covered: &[bool; 64],
@@ -136,7 +136,7 @@ fn apply_serial(sector: &[u8], place: usize, places: usize, serial: u64, memory:
 }
 
 // Applies the records from `low` to `last` in their order.
-pub fn replay<D: Device>(
+pub(crate) fn replay<D: Device>(
     device: &mut D,
     places: usize,
     low: u64,
@@ -170,7 +170,7 @@ fn look<D: Device>(device: &mut D, place: usize, places: usize) -> Result<Note, 
 }
 
 // Notes what each sector of the log says.
-pub fn scan<D: Device>(device: &mut D, notes: &mut [Note]) -> Result<(), DeviceFault>
+pub(crate) fn scan<D: Device>(device: &mut D, notes: &mut [Note]) -> Result<(), DeviceFault>
     requires { ⌜ length (now notes) ≤ D·Device .disk (now device) .plate .sectors ⌝ }
     ensures { λ r. ⌜ Looks (D·Device .disk (now (device .entry))) (λ _. Noted (length (now (notes .exit))) (D·Device .disk (now (device .entry)) .shows) (now (notes .exit))) r (D·Device .disk (now (device .exit))) ⌝ }
 {
