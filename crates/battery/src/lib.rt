@@ -1,4 +1,7 @@
 // A battery memory: a device with sectors of its own that never loses power.
+
+#![tactic(auto)]
+
 ghost use Rattle.battery.specs.Memory.{model, New, Put, Fetched, Stored, Idle};
 ghost use Rattle.std.specs.Prelude.{◌≡◌, ◌+◌, ◌*◌, ◌≤◌, length};
 ghost use Rattle.device.specs.Meaning.{Read, Write, Barrier, Restart};

@@ -1,4 +1,7 @@
 // A bench device: sectors in the caller's bytes, and power that fails where a plan says so.
+
+#![tactic(auto)]
+
 ghost use Rattle.bench.specs.Calls.{Made, Known, Means, stays, Took, Filled, Stored, Fetched, Waited, Woken};
 ghost use Rattle.bench.specs.Card.{card, cell, code_at, put, model, sectors};
 ghost use Rattle.device.specs.Meaning.{Admitted, Read, Write, Barrier, Restart};

@@ -1,4 +1,7 @@
 // A write cache over any device: it holds up to eight sectors, and sends them down in turn.
+
+#![tactic(auto)]
+
 ghost use Rattle.cache.specs.Exact.{Reads, Writes, Barriers, Restarts};
 ghost use Rattle.cache.specs.Held.{in_turn};
 ghost use Rattle.cache.specs.State.{state, disk_of, Sound};

@@ -1,4 +1,7 @@
 // The bench console: replays device calls from standard input, a command a line, an answer a line.
+
+#![tactic(auto)]
+
 use battery::Battery;
 use bench::Bench;
 use cache::Cache;

@@ -1,4 +1,7 @@
 // What a block device promises the code above it, also when power fails.
+
+#![tactic(auto)]
+
 ghost use Rattle.device.specs.Disk.{Disk};
 ghost use Rattle.device.specs.Meaning.{Admitted, Read, Write, Barrier, Restart, told_after};
 ghost use Rattle.std.specs.Prelude.{◌≡◌};

@@ -1,4 +1,7 @@
 // Tables of device calls with the answers that each device must give.
+
+#![tactic(auto)]
+
 ghost use Rattle.std.specs.Prelude.{◌≡◌};
 
 use device::{Device, DeviceFault, SECTOR};

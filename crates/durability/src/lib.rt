@@ -1,4 +1,7 @@
 // What a log still says after power failed while it was written: the promises that the store rests on.
+
+#![tactic(auto)]
+
 ghost use Rattle.durability.specs.Promises.{AppendCut, Appended, FirmOpens, Formatted, NotRefused};
 ghost use Rattle.durability.specs.Promises.{ClearCut, Cleared, HomeCut, Homed, MarkCut, Marked};
 

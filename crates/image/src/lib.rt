@@ -1,4 +1,7 @@
 // The memory of a store: declared bytes may change, and change back.
+
+#![tactic(auto)]
+
 ghost use Rattle.image.specs.Runs.{Joins};
 ghost use Rattle.image.specs.Cut.{PiecesFit, PiecesFew, PiecesNone, PiecesLay, Edges};
 

@@ -1,4 +1,7 @@
 // The log of a device, seen by serial: what an opening finds in it.
+
+#![tactic(auto)]
+
 ghost use Rattle.journal.specs.Opening.{Determined};
 
 mod note;

@@ -1,4 +1,7 @@
 // The law over every run of a store: a script of any calls, and what holds of its openings.
+
+#![tactic(auto)]
+
 mod deeds;
 mod run;
 mod script;

@@ -1,4 +1,7 @@
 // Tables of what the sectors of a log say, and of what a store makes of them.
+
+#![tactic(auto)]
+
 ghost use Rattle.std.specs.Prelude.{◌≡◌};
 
 use device::{Device, DeviceFault};

@@ -1,4 +1,7 @@
 // A mirror: two devices that hold the same, so that a sector spoiled on one is read from the other.
+
+#![tactic(auto)]
+
 ghost use Rattle.std.specs.Prelude.{◌≡◌, ◌<◌, min, true, length};
 ghost use Rattle.device.specs.Disk.{Disk};
 ghost use Rattle.device.specs.Meaning.{Read, Write, Barrier, Restart, told_after};

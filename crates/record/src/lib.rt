@@ -1,4 +1,7 @@
 // A log's record in a sector of a device: reading a sector as a record, and laying a record out.
+
+#![tactic(auto)]
+
 ghost use Rattle.std.specs.Prelude.{◌≡◌, ◌+◌, ◌≤◌, length, take, drop};
 ghost use Rattle.record.specs.Entry.{entry, reads_as};
 ghost use Rattle.record.specs.Calls.{Answered, Told, Written};

@@ -1,4 +1,7 @@
 // The log of a device from outside: making a new one, opening what is there, and writing a record.
+
+#![tactic(auto)]
+
 mod clearing;
 mod fault;
 mod format;

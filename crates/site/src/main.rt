@@ -1,4 +1,7 @@
 // A site controller's story, told as it happens: power fails on one card of a pair, and what is read back.
+
+#![tactic(auto)]
+
 use bench::Bench;
 use cache::Cache;
 use device::{Device, DeviceFault, SECTOR};

@@ -1,4 +1,7 @@
 // A recoverable store over any device: its log, its memory, and what an opening makes of them.
+
+#![tactic(auto)]
+
 mod clearing;
 mod fault;
 mod format;

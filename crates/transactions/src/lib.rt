@@ -1,4 +1,7 @@
 // A recoverable store over any device: its memory, its transactions and its log.
+
+#![tactic(auto)]
+
 mod calls;
 mod changes;
 mod fault;
