@@ -32,7 +32,7 @@ impl<D: Device> Cache<D> {
     // Reads a sector that is not held.
     pub(crate) fn read_below(&mut self, sector: usize, buffer: &mut [u8]) -> Result<(), DeviceFault>
         requires asked { Asked (state D.Device.disk self.old) sector (length buffer.old) }
-        requires held_value { is_held sector (in_turn self.old.held) ≡ false }
+        requires absent { is_held sector (in_turn self.old.held) ≡ false }
         ensures meaning { Read (disk_of (state D.Device.disk self.old)) sector buffer.old result (disk_of (state D.Device.disk self.new)) buffer.new }
         ensures exact { Reads (state D.Device.disk self.old) sector buffer.old result (state D.Device.disk self.new) buffer.new }
         ensures sound { Sound (state D.Device.disk self.old) → Sound (state D.Device.disk self.new) }
@@ -46,7 +46,7 @@ impl<D: Device> Cache<D> {
     // Gives a held sector its new bytes.
     pub(crate) fn rewrite(&mut self, sector: usize, bytes: &[u8])
         requires asked { Asked (state D.Device.disk self.old) sector (length bytes.now) }
-        requires held_value { is_held sector (in_turn self.old.held) ≡ true }
+        requires present { is_held sector (in_turn self.old.held) ≡ true }
         ensures meaning { Wrote (disk_of (state D.Device.disk self.old)) sector bytes.now (disk_of (state D.Device.disk self.new)) }
         ensures exact { Rewrote (state D.Device.disk self.old) sector bytes.now (state D.Device.disk self.new) }
         ensures sound { Sound (state D.Device.disk self.old) → Sound (state D.Device.disk self.new) }
@@ -57,8 +57,8 @@ impl<D: Device> Cache<D> {
     // Takes a sector in where there is room.
     pub(crate) fn take(&mut self, sector: usize, bytes: &[u8])
         requires asked { Asked (state D.Device.disk self.old) sector (length bytes.now) }
-        requires held_value { is_held sector (in_turn self.old.held) ≡ false }
-        requires held_len_bound { length (in_turn self.old.held) < 8 }
+        requires absent { is_held sector (in_turn self.old.held) ≡ false }
+        requires room { length (in_turn self.old.held) < 8 }
         ensures meaning { Wrote (disk_of (state D.Device.disk self.old)) sector bytes.now (disk_of (state D.Device.disk self.new)) }
         ensures exact { Took (state D.Device.disk self.old) sector bytes.now (state D.Device.disk self.new) }
         ensures sound { Sound (state D.Device.disk self.old) → Sound (state D.Device.disk self.new) }
@@ -69,8 +69,8 @@ impl<D: Device> Cache<D> {
     // Takes a sector in where there is no room: the longest held one has to go down first.
     pub(crate) fn displace(&mut self, sector: usize, bytes: &[u8]) -> Result<(), DeviceFault>
         requires asked { Asked (state D.Device.disk self.old) sector (length bytes.now) }
-        requires held_value { is_held sector (in_turn self.old.held) ≡ false }
-        requires in_bounds { 8 ≤ length (in_turn self.old.held) }
+        requires absent { is_held sector (in_turn self.old.held) ≡ false }
+        requires full { 8 ≤ length (in_turn self.old.held) }
         ensures meaning { Write (disk_of (state D.Device.disk self.old)) sector bytes.now result (disk_of (state D.Device.disk self.new)) }
         ensures exact { Writes (state D.Device.disk self.old) sector bytes.now result (state D.Device.disk self.new) }
         ensures sound { Sound (state D.Device.disk self.old) → Sound (state D.Device.disk self.new) }

@@ -23,9 +23,9 @@ fn write_in_turn<A: Device, B: Device>(
     sector: usize,
     bytes: &[u8],
 ) -> Result<(), DeviceFault>
-    requires sector_bound { sector < (A.Device.disk first.old).plate.sectors }
-    requires sector_bound_2 { sector < (B.Device.disk second.old).plate.sectors }
-    requires bytes_len { length bytes.now ≡ 128 }
+    requires in_first { sector < (A.Device.disk first.old).plate.sectors }
+    requires in_second { sector < (B.Device.disk second.old).plate.sectors }
+    requires whole { length bytes.now ≡ 128 }
     ensures { InTurn (A.Device.disk first.old) (wrote sector bytes.now ∷ settled ∷ []) (B.Device.disk second.old) (wrote sector bytes.now ∷ []) result (A.Device.disk first.new) (B.Device.disk second.new) }
 {
     first.write(sector, bytes)?;
@@ -55,8 +55,8 @@ fn ask_in_turn<L: Device, R: Device>(
     sector: usize,
     buffer: &mut [u8],
 ) -> Result<(), DeviceFault>
-    requires sector_bound { sector < (L.Device.disk left.old).plate.sectors }
-    requires buffer_len { length buffer.old ≡ 128 }
+    requires in_left { sector < (L.Device.disk left.old).plate.sectors }
+    requires whole { length buffer.old ≡ 128 }
     ensures { Reads sector buffer.old buffer.new (sides true 0 (L.Device.disk left.old) (R.Device.disk right.old)) result (sides true 0 (L.Device.disk left.new) (R.Device.disk right.new)) }
 {
     match left.read(sector, buffer) {

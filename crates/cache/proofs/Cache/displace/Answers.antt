@@ -19,8 +19,8 @@ returns-in_err-send_one g c =
     let p = err_from_is_err_and c.from_residual.result c.from_residual.ensures.1 in
     rw (p.1, p.2)
     (record {
-      meaning = not_displaced_meaning s c.args.sector b f t c.requires.0 n;
-      exact = not_displaced_exact s c.args.sector b f t c.requires.0 c.requires.1 c.requires.2 n;
+      meaning = not_displaced_meaning s c.args.sector b f t c.requires.asked n;
+      exact = not_displaced_exact s c.args.sector b f t c.requires.asked c.requires.absent c.requires.full n;
       sound = not_displaced_sound s f t n;
     })
 
@@ -41,7 +41,7 @@ returns g c =
     let h = in_turn c.push.new.self in
     let e : h ≡ t.held ++ line c.args.sector b ∷ [] = c.push.ensures ∙ ap (λ (l : Line). t.held ++ l ∷ []) c.new.ensures in
     record {
-      meaning = displaced_meaning s c.args.sector b t h c.requires.0 one e;
-      exact = displaced_exact s c.args.sector b t h c.requires.0 c.requires.1 c.requires.2 one e;
-      sound = displaced_sound s c.args.sector b t h c.requires.0 one e;
+      meaning = displaced_meaning s c.args.sector b t h c.requires.asked one e;
+      exact = displaced_exact s c.args.sector b t h c.requires.asked c.requires.absent c.requires.full one e;
+      sound = displaced_sound s c.args.sector b t h c.requires.asked one e;
     }

@@ -13,7 +13,7 @@ returns g c =
     let r = c.read-answer.result in
     let e = disk c.read-answer.new.self in
     record {
-      meaning = read_below_meaning (state disk self) c.args.sector b r e c.read-answer.new.buffer _ _ c.requires.0 c.requires.1 (sym c.lost_power.ensures) c.told_after-self.ensures c.read-answer.ensures;
-      exact = read_below_exact (state disk self) c.args.sector b r e c.read-answer.new.buffer _ _ c.requires.0 c.requires.1 (sym c.lost_power.ensures) c.told_after-self.ensures c.read-answer.ensures;
+      meaning = read_below_meaning (state disk self) c.args.sector b r e c.read-answer.new.buffer _ _ c.requires.asked c.requires.absent (sym c.lost_power.ensures) c.told_after-self.ensures c.read-answer.ensures;
+      exact = read_below_exact (state disk self) c.args.sector b r e c.read-answer.new.buffer _ _ c.requires.asked c.requires.absent (sym c.lost_power.ensures) c.told_after-self.ensures c.read-answer.ensures;
       sound = read_below_sound (disk self.below) c.args.sector b r e c.read-answer.new.buffer (in_turn self.held) c.read-answer.ensures;
     }

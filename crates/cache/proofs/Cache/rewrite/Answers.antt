@@ -14,7 +14,7 @@ returns g c =
     let h = in_turn c.rewrite.new.self in
     let e : h ≡ rewritten c.args.sector b s.held = c.rewrite.ensures ∙ ap (λ (l : Line). rewritten l.sector l.bytes s.held) c.new.ensures in
     record {
-      meaning = rewrite_meaning s c.args.sector b h c.requires.0 c.requires.1 e;
-      exact = record { asked = c.requires.0; found = c.requires.1; below = refl; turns = e; on = c.requires.0.on; told = refl };
-      sound = rewrite_sound s c.args.sector b h c.requires.0 e;
+      meaning = rewrite_meaning s c.args.sector b h c.requires.asked c.requires.present e;
+      exact = record { asked = c.requires.asked; found = c.requires.present; below = refl; turns = e; on = c.requires.asked.on; told = refl };
+      sound = rewrite_sound s c.args.sector b h c.requires.asked e;
     }

@@ -14,7 +14,7 @@ returns g c =
     let h = in_turn c.push.new.self in
     let e : h ≡ s.held ++ line c.args.sector b ∷ [] = c.push.ensures ∙ ap (λ (l : Line). s.held ++ l ∷ []) c.new.ensures in
     record {
-      meaning = take_meaning s c.args.sector b s.below s.held h s.on s.told c.requires.0 e c.requires.0.on refl (λ i. refl) (λ i x st. st);
-      exact = record { asked = c.requires.0; absent = c.requires.1; room = c.requires.2; below = refl; turns = e; on = c.requires.0.on; told = refl };
-      sound = take_sound s c.args.sector b s.below s.held h c.requires.0 e refl;
+      meaning = take_meaning s c.args.sector b s.below s.held h s.on s.told c.requires.asked e c.requires.asked.on refl (λ i. refl) (λ i x st. st);
+      exact = record { asked = c.requires.asked; absent = c.requires.absent; room = c.requires.room; below = refl; turns = e; on = c.requires.asked.on; told = refl };
+      sound = take_sound s c.args.sector b s.below s.held h c.requires.asked e refl;
     }

@@ -20,22 +20,22 @@ apply-requires c =
       whole = c.requires;
     }
 
-pub returns-then-serial-of_serial : goal.returns-then-serial-of_serial
-returns-then-serial-of_serial c i =
+pub returns-then-serial_of-serial : goal.returns-then-serial_of-serial
+returns-then-serial_of-serial c i =
     let h = c.in-Some.ensures in
     let e = entry c.in-Some.record in
     let x = said c.args.places c.args.place (holds c.args.sector.now) in
     let same = said_good c.args.places c.args.place c.args.sector.now h.good ∙ sym h.told in
-    let here = serial_here c.args.serial e x same (sym c.serial_of.ensures ∙ c.if_serial-of_serial.true) in
+    let here = serial_here c.args.serial e x same (sym c.serial_of.ensures ∙ c.if-serial_of-serial.true) in
     c.apply.ensures i ∙ ap (λ (y : Entry). applied y i (get_or c.args.memory.now i 0)) (sym here)
 
-pub returns-else-serial-of_serial : goal.returns-else-serial-of_serial
-returns-else-serial-of_serial c i =
+pub returns-else-serial_of-serial : goal.returns-else-serial_of-serial
+returns-else-serial_of-serial c i =
     let h = c.in-Some.ensures in
     let e = entry c.in-Some.record in
     let x = said c.args.places c.args.place (holds c.args.sector.now) in
     let same = said_good c.args.places c.args.place c.args.sector.now h.good ∙ sym h.told in
-    let none = serial_else c.args.serial e x same (λ k. c.if_serial-of_serial.false (c.serial_of.ensures ∙ k)) in
+    let none = serial_else c.args.serial e x same (λ k. c.if-serial_of-serial.false (c.serial_of.ensures ∙ k)) in
     sym (applied_nothing (if_serial c.args.serial x) i (get_or c.args.memory.now i 0) none)
 
 pub returns-in_default : goal.returns-in_default

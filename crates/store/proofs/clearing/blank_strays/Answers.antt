@@ -9,7 +9,7 @@ use Rattle.store.specs.Clearing.{astray, blanking}
 use Rattle.journal.specs.Opening.{strays}
 use Rattle.store.proofs.Strays.{ClearedTo, clear_begins, clear_writes, clear_passes, clear_cut, clear_ends, yields_cut}
 use Rattle.store.proofs.clearing.blank_strays.Goals as goal
-use Rattle.store.proofs.clearing.blank_strays.Goals.{then-notes-place+in-ok-write, else-notes-place}
+use Rattle.store.proofs.clearing.blank_strays.Goals.{then-notes-place+in_ok-write, else-notes-place}
 
 pub loop-place-init : goal.loop-place-init
 loop-place-init g c = clear_begins (g.D.Device.disk c.args.device.now) (length c.args.notes.now) c.args.last
@@ -38,7 +38,7 @@ loop-place-preserved g c =
     let i = c.loop-place.place in
     let note = c.requires.noted.each i c.loop-place-test.true in
     elim c.if-notes-place.branch [
-      | then-notes-place+in-ok-write w ↦
+      | then-notes-place+in_ok-write w ↦
           let above : c.args.last < (said n i (d.shows i)).serial = omega (arith, w.if-notes-place.true, note.serial) in
           let t = lt-ltb c.args.last (said n i (d.shows i)).serial above in
           let r = clear_writes d m (g.D.Device.disk w.write.new.self) n c.args.last i c.loop-place.count c.loop-place-test.true t c.loop-place.invariant w.in_ok-write.ensures in

@@ -6,7 +6,11 @@ use Rattle.cache.proofs.held.Held.push.Goals as goal
 pub invariant_of-self : goal.invariant_of-self
 invariant_of-self c =
     let h = c.args.self.now in
-    (simp length-set h.eight, (h.begins, (omega (arith, c.requires, lines_length h.slots h.first h.count h.eight h.begins h.few), tt)))
+    record {
+      eight = simp length-set h.eight;
+      begins = h.begins;
+      few = omega (arith, c.requires, lines_length h.slots h.first h.count h.eight h.begins h.few);
+    }
 
 pub returns : goal.returns
 returns c =
