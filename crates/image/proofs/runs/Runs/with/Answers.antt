@@ -21,14 +21,14 @@ loop-next-preserved c =
     let e = left_at s.count l.next s.items (run 0 0) (omega arith) c.loop-next-test.true in
     elim j.branch [
       | then-run-low w ↦ (
-        renamed l.low j.low l.high j.high (l.count + 1) j.count _ j.items rest ys w.low_is w.high-is w.count-is w.items-is
+        renamed l.low j.low l.high j.high (l.count + 1) j.count _ j.items rest ys w.low-is w.high-is w.count-is w.items-is
             (keeps_run l.low l.high l.count l.items xs rest ys r (omega arith) e c.if-self-next.true w.if-run-low.true l.invariant.0),
         ap length w.items-is ∙ simp length-set l.invariant.1,
         omega (arith, w.count-is),
         omega arith,
       )
       | else-run-low w ↦ (
-        renamed (min l.low r.from) j.low (max l.high r.to) j.high l.count j.count _ j.items rest ys (w.low_is ∙ w.min-low.ensures) (w.high-is ∙ w.max-high.ensures) w.count-is w.items-is
+        renamed (min l.low r.from) j.low (max l.high r.to) j.high l.count j.count _ j.items rest ys (w.low-is ∙ w.min-low.ensures) (w.high-is ∙ w.max-high.ensures) w.count-is w.items-is
             (takes_run l.low l.high l.count l.items xs rest ys r e c.if-self-next.true w.if-run-low.false l.invariant.0),
         ap length w.items-is ∙ l.invariant.1,
         omega (arith, w.count-is),
@@ -82,19 +82,13 @@ pub invariant_of-result : goal.invariant_of-result
 invariant_of-result c =
     let s = c.args.self.now in
     let l = c.loop-next-2 in
-    let e = all_written l.count l.items _ _ (none_left s.count l.next s.items c.loop-next-2-test.false) l.invariant.0 in (
-      l.invariant.1,
-      (
-        l.invariant.2,
-        (
-          subst (λ (xs : List Run). ∥ Apart 0 xs ∥₁) (sym e) (∥∥₁_map s.apart (joined_apart 0 c.args.from c.args.to (listed s) (omega arith) c.requires.some)),
-          (
-            subst (λ (xs : List Run). ∥ Inside xs ∥₁) (sym e) (∥∥₁_map s.inside (joined_inside c.args.from c.args.to (listed s) c.requires.inside)),
-            tt,
-          ),
-        ),
-      ),
-    )
+    let e = all_written l.count l.items _ _ (none_left s.count l.next s.items c.loop-next-2-test.false) l.invariant.0 in
+    record {
+      sized = l.invariant.1;
+      few = l.invariant.2;
+      apart = subst (λ (xs : List Run). ∥ Apart 0 xs ∥₁) (sym e) (∥∥₁_map s.apart (joined_apart 0 c.args.from c.args.to (listed s) (omega arith) c.requires.some));
+      inside = subst (λ (xs : List Run). ∥ Inside xs ∥₁) (sym e) (∥∥₁_map s.inside (joined_inside c.args.from c.args.to (listed s) c.requires.inside));
+    }
 
 pub returns : goal.returns
 returns c =

@@ -9,13 +9,9 @@ use Rattle.image.proofs.state.Image.declare.Goals as goal
 pub invariant_of-self : goal.invariant_of-self
 invariant_of-self c =
     let x = c.args.self.now in
-    let f = c.args.start in (
-      x.whole,
-      (
-        x.kept,
-        (
-          λ i h. x.same i (λ d. h (subst (λ (rs : List Run). Declared rs i) (sym c.in-Some.ensures) (joined_covers f (f + c.args.size) (declared x) i (inr d)))),
-          tt,
-        ),
-      ),
-    )
+    let f = c.args.start in
+    record {
+      whole = x.whole;
+      kept = x.kept;
+      same = λ i h. x.same i (λ d. h (subst (λ (rs : List Run). Declared rs i) (sym c.in-Some.ensures) (joined_covers f (f + c.args.size) (declared x) i (inr d))));
+    }

@@ -9,7 +9,7 @@ invariant_of-self c =
     let x = c.args.self.now in
     let l : length c.copy.new.target ≡ 6144 = omega (arith, c.copy.auto.target) in
     let e = settled (declared x) x.memory x.before c.copy.new.target (omega arith) (λ i n. sym (x.same i n)) c.copy.ensures in
-    (x.whole, (l, (λ i n. ap (λ (m : List ℕ). get_or m i 0) (sym e), tt)))
+    record { whole = x.whole; kept = l; same = λ i n. ap (λ (m : List ℕ). get_or m i 0) (sym e) }
 
 pub returns : goal.returns
 returns c =

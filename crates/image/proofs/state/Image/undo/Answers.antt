@@ -9,7 +9,7 @@ invariant_of-self c =
     let x = c.args.self.now in
     let l : length c.copy.new.target ≡ 6144 = omega (arith, c.copy.auto.target) in
     let e = settled (declared x) x.before x.memory c.copy.new.target (omega arith) x.same c.copy.ensures in
-    (l, (x.kept, (λ i n. ap (λ (m : List ℕ). get_or m i 0) e, tt)))
+    record { whole = l; kept = x.kept; same = λ i n. ap (λ (m : List ℕ). get_or m i 0) e }
 
 pub returns : goal.returns
 returns c =

@@ -10,18 +10,14 @@ invariant_of-self c =
     let bytes = c.args.bytes.now in
     let n : f + length bytes - f ≡ length bytes = omega arith in
     let h : f + length bytes ≤ length x.memory = omega arith in
-    let got = c.copy_from_slice.ensures.after in (
-      written_length f (f + length bytes - f) bytes _ x.memory n got h ∙ x.whole,
-      (
-        x.kept,
-        (
-          λ i k.
-              written_byte f (f + length bytes - f) bytes _ x.memory n got h i
-              ∙ unwritten f bytes i (get_or x.memory i 0) (λ low high. k (c.reached-reached.ensures.before i low (omega arith))) ∙ x.same i k,
-          tt,
-        ),
-      ),
-    )
+    let got = c.copy_from_slice.ensures.after in
+    record {
+      whole = written_length f (f + length bytes - f) bytes _ x.memory n got h ∙ x.whole;
+      kept = x.kept;
+      same = λ i k.
+          written_byte f (f + length bytes - f) bytes _ x.memory n got h i
+          ∙ unwritten f bytes i (get_or x.memory i 0) (λ low high. k (c.reached-reached.ensures.before i low (omega arith))) ∙ x.same i k;
+    }
 
 pub returns : goal.returns
 returns c =
