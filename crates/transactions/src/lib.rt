@@ -24,5 +24,5 @@ pub use image::MEMORY;
 pub use log::Log;
 pub use spool::{Spool, Spooled};
 pub use state::State;
+pub use store::Store;
 pub use token::Token;
-pub use transactions::Store;

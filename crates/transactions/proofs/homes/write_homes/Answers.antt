@@ -6,7 +6,7 @@ use Rattle.durability.specs.Promises.{home_of}
 use Rattle.transactions.specs.Pages.{flag}
 use Rattle.transactions.proofs.Going.{Going, going_begins, going_on, going_cut, going_ends, going_as, homes_left, home_next, home_pass, home_end}
 use Rattle.transactions.proofs.homes.write_homes.Goals as goal
-use Rattle.transactions.proofs.homes.write_homes.Goals.{then-flags-page+in_ok-write-home, else-flags-page}
+use Rattle.transactions.proofs.homes.write_homes.Goals.{then-flags-page+in_ok-write_home, else-flags-page}
 
 pub loop-page-init : goal.loop-page-init
 loop-page-init g c = going_begins (c.args.places + 64) (g.D.Device.disk c.args.device.now) (homes_left c.args.places c.args.memory.now (flag c.args.flags.now) 0)
@@ -21,7 +21,7 @@ loop-page-preserved g c =
     let d = g.D.Device.disk c.args.device.now in
     let m = g.D.Device.disk c.loop-page.device in
     elim c.if-flags-page.branch [
-      | then-flags-page+in_ok-write-home w ↦
+      | then-flags-page+in_ok-write_home w ↦
           subst (λ (x : g.row.D.Denot). Going (n + 64) d all (g.D.Device.disk x) (homes_left n memory test (i + 1))) (sym w.device-is)
           (going_on (n + 64) d m (g.D.Device.disk w.write_home.new.device) all (homes_left n memory test (i + 1)) (wrote (n + i) (home_of memory i))
           (going_as (n + 64) d m all (homes_left n memory test i) (wrote (n + i) (home_of memory i) ∷ homes_left n memory test (i + 1)) (home_next n memory test i c.loop-page-test.true w.if-flags-page.true) c.loop-page.invariant)

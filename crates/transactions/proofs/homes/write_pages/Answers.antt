@@ -6,7 +6,7 @@ use Rattle.transactions.specs.Truncation.{page_item}
 use Rattle.transactions.proofs.Going.{Going, going_begins, going_on, going_cut, going_ends, going_as, records_left, record_next, record_pass, record_end}
 use Rattle.transactions.proofs.Loops.{written_as}
 use Rattle.transactions.proofs.homes.write_pages.Goals as goal
-use Rattle.transactions.proofs.homes.write_pages.Goals.{then-flags-page+in_ok-write-page, else-flags-page}
+use Rattle.transactions.proofs.homes.write_pages.Goals.{then-flags-page+in_ok-write_page, else-flags-page}
 
 pub loop-page-init : goal.loop-page-init
 loop-page-init g c =
@@ -31,7 +31,7 @@ loop-page-preserved g c =
     let inv = c.loop-page.invariant in
     let a = written_as n log.low (s + 1) (page_item o memory i) in
     elim c.if-flags-page.branch [
-      | then-flags-page+in_ok-write-page w ↦ (
+      | then-flags-page+in_ok-write_page w ↦ (
         subst (λ (t : ℕ). Going n d all (g.D.Device.disk c.if-flags-page.device) (left t (i + 1))) (sym w.serial-is)
             (subst (λ (x : g.row.D.Denot). Going n d all (g.D.Device.disk x) (left (s + 1) (i + 1))) (sym w.device-is)
             (going_on n d m (g.D.Device.disk w.write_page.new.device) all (left (s + 1) (i + 1)) a

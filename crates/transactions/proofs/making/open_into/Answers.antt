@@ -30,4 +30,4 @@ returns-in_err-survey g c =
 pub invariant_of-state-2 : goal.invariant_of-state-2
 invariant_of-state-2 g c =
     let b = found_bounds (g.D.Device.disk c.args.device.now) (g.D.Device.disk c.open_log.new.device) c.in_ok-survey.survey c.in_ok-survey.strays c.open_log.new.memory c.in_ok-survey.ensures in
-    (omega (arith, b.0, c.requires.idle.empty), (omega (arith, b.1), tt))
+    record { bounded = omega (arith, b.0, c.requires.idle.empty); numbered = omega (arith, b.1) }
