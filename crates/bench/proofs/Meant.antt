@@ -1,13 +1,13 @@
 -- What a write does to the bytes, the flags and the plan is what a write means.
-use Rattle.std.proofs.Common.{◌≡◌, ℕ, ◌+◌, ◌*◌, ◌/◌, ◌<◌, ◌≤◌, min, Bool, true, false, cond, eqb, ◌≢◌, ◌⊎◌, List, [], ◌∷◌, length, get_or, set, Ok, Err, sym, refl, ap, ◌∙◌, subst, inl, inr, ⊎_elim, arith, rules}
+use Rattle.std.proofs.Common.{◌≡◌, ℕ, ◌+◌, ◌*◌, ◌/◌, ◌<◌, ◌≤◌, min, Bool, true, false, cond, eqb, ◌≢◌, ◌⊎◌, List, [], ◌∷◌, length, get_or, set, Ok, Err, sym, refl, ap, ◌∙◌, subst, inl, inr, ⊎_elim, arith}
 use Rattle.std.proofs.lemmas.List.{length-set, get_or-set_same, get_or-set_other}
 use Rattle.std.proofs.lemmas.Bool.{cases_lt, cases_eq}
-use Rattle.device.specs.declared.fault.DeviceFault.TheVariants.{Power, Misaddressed}
-use Rattle.device.specs.Disk.{Disk, Plate, Shown, spoiled, holds}
-use Rattle.device.specs.Meaning.{Answer, Write, Addressed, NothingNew, Torn}
+use Rattle.device.specs.declared.fault.DeviceFault.TheVariants.{Power}
+use Rattle.device.specs.Disk.{Plate, Shown, spoiled, holds}
+use Rattle.device.specs.Meaning.{Answer, Write, Addressed, NothingNew}
 use Rattle.device.proofs.Sectors.{put_there, put_elsewhere, length_put}
 use Rattle.bench.specs.Card.{Card, model, sectors, cell, put, flag, shown, code, next}
-use Rattle.bench.specs.Calls.{Ready, Wrong, Left, Stored, silent, misaddressed}
+use Rattle.bench.specs.Calls.{Ready, Wrong, Left, Stored}
 
 -- what a sector with this flag and these bytes shows
 abbrev face : ℕ → List ℕ → Shown

@@ -7,7 +7,7 @@ use Rattle.bench.specs.declared.Bench.{Bench}
 use Rattle.bench.specs.declared.Supply.{Supply}
 use Rattle.bench.specs.declared.Fate.{Fate}
 use Rattle.bench.specs.declared.Fate.TheVariants as fates
-use Rattle.bench.specs.Card.{Card, card, sectors, cell, put, flag, code_at, one_more, code, next}
+use Rattle.bench.specs.Card.{Card, card, sectors, cell, put, flag, one_more, code, next}
 
 -- Each code of the plan is known.
 abbrev pub Known : List ℕ → Type 0

@@ -1,13 +1,13 @@
 -- Each call's meaning, from what was done below.
-use Rattle.std.proofs.Common.{◌≡◌, ℕ, ◌<◌, ◌≤◌, Bool, true, false, cond, eqb, ◌≢◌, ◌⊎◌, List, [], ◌∷◌, ◌++◌, length, is_some, is_ok, Some, None, Ok, Err, Option, sym, refl, ap, ◌∙◌, subst, inl, inr, arith}
+use Rattle.std.proofs.Common.{◌≡◌, ℕ, Bool, true, false, cond, eqb, List, [], ◌∷◌, ◌++◌, length, is_some, is_ok, Some, None, Ok, Err, Option, sym, refl, ap, ◌∙◌, subst, inl, inr}
 use Rattle.std.proofs.lemmas.Bool.{both_ways}
 use Rattle.device.specs.declared.fault.DeviceFault.TheVariants.{Power, Misaddressed, Unfit, Spoiled}
-use Rattle.device.specs.Disk.{Disk, Plate, Shown, spoiled, holds, Among, Stands}
-use Rattle.device.specs.Meaning.{Answer, Addressed, NothingNew, Torn, WasOff, Lost, Wrote, MayWrite, Failed, Read, ReadDone, Write, Barrier, Restart, Restarted, Settled, told_after}
+use Rattle.device.specs.Disk.{Disk, Shown, Stands}
+use Rattle.device.specs.Meaning.{Answer, Addressed, NothingNew, Wrote, Failed, Read, ReadDone, Restart, told_after}
 use Rattle.device.proofs.Changes.{not_astray, still_addressed, faded_failed, read_plate}
-use Rattle.cache.specs.Line.{Line, line, kept, is_held, later, rewritten}
-use Rattle.cache.specs.State.{State, laid, over, plate_over, disk_of, Fits, Sound}
-use Rattle.cache.specs.Exact.{Asked, on_after, FromHeld, FromBelow, Reads, Restarts}
+use Rattle.cache.specs.Line.{Line, line, kept, is_held, rewritten}
+use Rattle.cache.specs.State.{State, laid, over, plate_over, disk_of, Fits}
+use Rattle.cache.specs.Exact.{Asked, on_after, FromBelow, Reads, Restarts}
 use Rattle.cache.proofs.Overlay as lay
 
 abbrev pub made : Disk → List Line → Bool → ℕ → State

@@ -1,8 +1,8 @@
 -- Held sectors laid over a disk: what shows, what may stand, and what a write below leaves of it.
-use Rattle.std.proofs.Common.{◌≡◌, ℕ, Bool, true, false, cond, eqb, ◌≢◌, ◌⊎◌, List, [], ◌∷◌, ◌++◌, length, is_some, Some, None, Option, sym, refl, ap, ◌∙◌, subst, inl, inr}
-use Rattle.std.proofs.lemmas.Bool.{eq-eqb, ne_eqb, eqb-true, eqb-false, cases_eq, both_ways}
+use Rattle.std.proofs.Common.{◌≡◌, ℕ, Bool, true, false, cond, eqb, ◌≢◌, ◌⊎◌, List, [], ◌∷◌, ◌++◌, is_some, Some, None, Option, sym, refl, ap, ◌∙◌, subst, inl, inr}
+use Rattle.std.proofs.lemmas.Bool.{eq-eqb, ne_eqb, cases_eq, both_ways}
 use Rattle.device.specs.Disk.{Disk, Shown, spoiled, holds, Among, Stands}
-use Rattle.device.specs.Meaning.{Addressed, NothingNew, Torn, WasOff, Wrote, MayWrite}
+use Rattle.device.specs.Meaning.{NothingNew, Wrote, MayWrite}
 use Rattle.device.specs.Trace.{Cut, wrote}
 use Rattle.cache.specs.Line.{Line, line, kept, later, rewritten}
 use Rattle.cache.specs.State.{laid, over}

@@ -1,16 +1,16 @@
 -- Held sectors sent down one after another: what is done below, and what the cache shows after it.
-use Rattle.std.proofs.Common.{◌≡◌, ℕ, ◌<◌, ◌≤◌, Bool, true, false, ◌≢◌, ◌⊎◌, List, [], ◌∷◌, ◌++◌, map, length, is_ok, Ok, Err, sym, refl, ap, ◌∙◌, subst, inl, inr}
+use Rattle.std.proofs.Common.{◌≡◌, ℕ, ◌≤◌, Bool, true, false, List, [], ◌∷◌, ◌++◌, map, length, is_ok, Ok, Err, sym, refl, ap, ◌∙◌, subst, inl, inr}
 use Rattle.std.proofs.lemmas.List.{append-nil}
 use Rattle.device.specs.declared.fault.DeviceFault.{DeviceFault}
 use Rattle.device.specs.declared.fault.DeviceFault.TheVariants.{Power, Misaddressed, Unfit, Spoiled}
-use Rattle.device.specs.Disk.{Disk, Plate, Shown, Among, Stands}
+use Rattle.device.specs.Disk.{Disk, Plate, Among, Stands}
 use Rattle.device.specs.Meaning.{Answer, Addressed, NothingNew, Wrote, Settled, Failed, Quiet, Write, Barrier, told_after}
-use Rattle.device.specs.Trace.{settled, Does, Cut, Done, CutShort}
+use Rattle.device.specs.Trace.{Cut, Done, CutShort}
 use Rattle.device.proofs.Changes.{changed_cut, cut_origin, faded_failed}
 use Rattle.cache.specs.Line.{Line, line, is_held}
-use Rattle.cache.specs.State.{State, laid, over, plate_over, disk_of, Fits, Sound}
-use Rattle.cache.specs.Exact.{sends, empties, next, Asked, Displaced, NotDisplaced, Writes, Emptied, NotEmptied, CutOff, Barriers}
-use Rattle.cache.specs.Steps.{Missing, Fails, SentOne, NotSent, SendsOne, SentAll, Stopped, SendsAll}
+use Rattle.cache.specs.State.{State, laid, over, plate_over, disk_of, Fits}
+use Rattle.cache.specs.Exact.{sends, empties, next, Asked, Writes, Emptied, NotEmptied, Barriers}
+use Rattle.cache.specs.Steps.{Fails, SentOne, NotSent, SendsOne, SentAll, Stopped, SendsAll}
 use Rattle.cache.proofs.Calls.{made, fits_still, take_meaning, take_sound}
 use Rattle.cache.proofs.Overlay as lay
 

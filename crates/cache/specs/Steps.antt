@@ -3,7 +3,7 @@ use Rattle.std.specs.Prelude.{◌≡◌, ℕ, ◌⊎◌, List, [], ◌∷◌, �
 use Rattle.device.specs.declared.fault.DeviceFault.TheVariants.{Power, Misaddressed, Unfit, Spoiled}
 use Rattle.device.specs.Disk.{Disk}
 use Rattle.device.specs.Meaning.{Answer, Addressed, Wrote}
-use Rattle.device.specs.Trace.{Does, Cut, Done}
+use Rattle.device.specs.Trace.{Cut, Done}
 use Rattle.cache.specs.Line.{Line}
 use Rattle.cache.specs.State.{State}
 use Rattle.cache.specs.Exact.{sends}

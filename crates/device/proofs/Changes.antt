@@ -1,9 +1,9 @@
 -- What short sequences of device calls leave, done or cut.
-use Rattle.std.proofs.Common.{◌≡◌, ℕ, ◌<◌, ◌≤◌, true, false, ◌≢◌, ◌⊎◌, List, [], ◌∷◌, Ok, Err, sym, refl, ap, ◌∙◌, subst, inl, inr, ⊎_elim, arith}
+use Rattle.std.proofs.Common.{◌≡◌, ℕ, ◌<◌, ◌≤◌, false, ◌≢◌, ◌⊎◌, List, [], ◌∷◌, Ok, Err, sym, ap, ◌∙◌, subst, inl, inr, arith}
 use Rattle.device.specs.declared.fault.DeviceFault.TheVariants.{Power, Misaddressed, Unfit, Spoiled}
-use Rattle.device.specs.Disk.{Disk, Plate, Shown, spoiled, holds, Among, Stands}
-use Rattle.device.specs.Meaning.{Answer, Addressed, NothingNew, Quiet, MayWrite, Lost, Torn, WasOff, Failed, Wrote, Settled, Restarted, Read}
-use Rattle.device.specs.Trace.{Act, Does, Cut, Done, CutShort, wrote, settled}
+use Rattle.device.specs.Disk.{Disk, Plate, Shown, Among, Stands}
+use Rattle.device.specs.Meaning.{Answer, Addressed, NothingNew, MayWrite, Lost, Failed, Wrote, Settled, Read}
+use Rattle.device.specs.Trace.{Act, Does, Cut, Done, CutShort, wrote}
 
 -- plans of one and of two calls, without the ends of their recursion
 pub done_one : (d e : Disk) (a : Act) → Done d (a ∷ []) e → Does a d e

@@ -1,11 +1,11 @@
 -- Plans one after another, and loops that work a plan off.
-use Rattle.std.proofs.Common.{◌≡◌, ℕ, ◌<◌, ◌⊎◌, List, [], ◌∷◌, ◌++◌, length, Ok, Err, sym, refl, ap, ◌∙◌, subst, inl, inr, ⊎_elim}
+use Rattle.std.proofs.Common.{◌≡◌, ℕ, ◌<◌, List, [], ◌∷◌, ◌++◌, length, Ok, Err, refl, ap, ◌∙◌, subst, inl, inr}
 use Rattle.device.specs.declared.fault.DeviceFault.{DeviceFault}
 use Rattle.device.specs.declared.fault.DeviceFault.TheVariants.{Power, Misaddressed, Unfit, Spoiled}
 use Rattle.device.specs.Disk.{Disk}
 use Rattle.device.specs.Meaning.{Answer, Write, Barrier, Restart}
 use Rattle.device.proofs.Changes.{not_astray}
-use Rattle.device.specs.Trace.{Act, looked, wrote, settled, restarted, Does, Cut, Done, CutShort, Tries}
+use Rattle.device.specs.Trace.{Act, looked, wrote, settled, restarted, Does, Done, CutShort, Tries}
 
 -- a plan that was done, and then another
 pub done_append : (d m e : Disk) (first second : List Act) → Done d first m → Done m second e → Done d (first ++ second) e

@@ -1,5 +1,5 @@
 -- Homes of covered pages are written: the log stands firm all the while.
-use Rattle.std.proofs.Common.{◌≡◌, ℕ, ◌+◌, ◌<◌, ◌≤◌, ◌⊎◌, List, [], ◌∷◌, ◌++◌, get_or, sym, refl, ap, ◌∙◌, subst, inl, inr, ⊎_elim, arith}
+use Rattle.std.proofs.Common.{◌≡◌, ℕ, ◌+◌, ◌<◌, ◌≤◌, List, [], ◌∷◌, ◌++◌, get_or, sym, refl, ap, ◌∙◌, subst, inl, inr, ⊎_elim, arith}
 use Rattle.device.specs.Disk.{Disk, Shown, Among}
 use Rattle.device.specs.Trace.{Act, wrote, settled}
 use Rattle.device.proofs.Membership.{among_left, among_split}

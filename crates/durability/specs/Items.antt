@@ -1,5 +1,5 @@
 -- What is appended to a log, and what that makes of the memory.
-use Rattle.std.specs.Prelude.{ℕ, ◌+◌, ◌*◌, ◌%◌, ◌<◌, ◌≤◌, List, [], ◌∷◌, length}
+use Rattle.std.specs.Prelude.{ℕ, ◌+◌, ◌*◌, ◌%◌, ◌≤◌, List, [], ◌∷◌, length}
 use Rattle.device.specs.Trace.{Act, wrote}
 use Rattle.record.specs.Entry.{Entry, laid_out}
 use Rattle.record.specs.Good.{Fits}

@@ -1,9 +1,9 @@
 -- What is promised of a log when power fails in each kind of writing.
-use Rattle.std.specs.Prelude.{◌≡◌, ℕ, zero, suc, ◌+◌, ◌-◌, ◌*◌, ◌%◌, ◌^◌, ◌<◌, ◌≤◌, ◌⊎◌, List, [], ◌∷◌, ◌++◌, length, take, drop, replicate, ◌≢◌, slice_index}
+use Rattle.std.specs.Prelude.{◌≡◌, ℕ, ◌+◌, ◌-◌, ◌*◌, ◌%◌, ◌^◌, ◌<◌, ◌≤◌, ◌⊎◌, List, [], ◌∷◌, ◌++◌, length, take, drop, replicate, ◌≢◌, slice_index}
 use Rattle.device.specs.Disk.{Disk, Shown, spoiled, holds, Among}
 use Rattle.device.specs.Meaning.{Quiet}
 use Rattle.device.specs.Trace.{Act, wrote, settled, Done, CutShort}
-use Rattle.record.specs.Entry.{Entry, laid_out}
+use Rattle.record.specs.Entry.{laid_out}
 use Rattle.journal.specs.Log.{log}
 use Rattle.journal.specs.Memory.{from_home}
 use Rattle.journal.specs.Opening.{Covers}

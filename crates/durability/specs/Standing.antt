@@ -1,5 +1,5 @@
 -- A log that stands firm, and one that may be opened.
-use Rattle.std.specs.Prelude.{◌≡◌, ℕ, ◌+◌, ◌-◌, ◌^◌, ◌<◌, ◌≤◌, List, slice_index}
+use Rattle.std.specs.Prelude.{◌≡◌, ℕ, ◌+◌, ◌-◌, ◌<◌, ◌≤◌, List, slice_index}
 use Rattle.device.specs.Disk.{Disk, Shown, Stands}
 use Rattle.journal.specs.Log.{log}
 use Rattle.journal.specs.Memory.{replayed, from_home}

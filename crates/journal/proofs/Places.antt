@@ -1,11 +1,10 @@
 -- What is known of the record at a place of the log, and of the record with a serial.
-use Rattle.std.proofs.Common.{◌≡◌, ℕ, zero, suc, ◌+◌, ◌-◌, ◌%◌, ◌^◌, ◌<◌, ◌≤◌, eqb, ◌⊎◌, List, length, get_or, take, drop, replicate, Some, None, Option, sym, refl, ap, ◌∙◌, subst, inl, inr, ⊎_elim, mod-lt, arith, length-drop, length-take}
+use Rattle.std.proofs.Common.{◌≡◌, ℕ, zero, suc, ◌+◌, ◌-◌, ◌%◌, ◌^◌, ◌<◌, ◌≤◌, eqb, ◌⊎◌, List, length, replicate, Some, None, Option, sym, refl, ap, ◌∙◌, subst, inl, inr, ⊎_elim, mod-lt, arith}
 use Rattle.std.proofs.lemmas.Bool.{cases_lt, cases_Bool, eqb-true, eq-eqb, cond-true, cond-false}
 use Rattle.device.specs.Disk.{Shown, spoiled, holds}
 use Rattle.record.specs.Entry.{Entry, reads_as}
-use Rattle.record.specs.Fields.{field}
 use Rattle.record.specs.Calls.{Answered, Told}
-use Rattle.record.specs.Good.{Fits, Good, Sound}
+use Rattle.record.specs.Good.{Good, Sound}
 use Rattle.record.specs.declared.Record.{Record}
 use Rattle.record.proofs.Laws.{found_good, found_bad, kind_good, good_sound, good_kind, good_or_not, zeros_bad}
 use Rattle.journal.specs.Log.{nothing, said, if_serial, log}

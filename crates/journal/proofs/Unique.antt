@@ -1,11 +1,11 @@
 -- What an opening finds is determined by what the sectors show.
-use Rattle.std.proofs.Common.{◌≡◌, ℕ, ◌+◌, ◌-◌, ◌<◌, ◌≤◌, ◌⊎◌, List, length, get_or, sym, refl, ap, ◌∙◌, subst, inl, inr, ⊎_elim, arith}
+use Rattle.std.proofs.Common.{◌≡◌, ℕ, ◌+◌, ◌<◌, List, length, sym, ap, ◌∙◌, subst, ⊎_elim, arith}
 use Rattle.std.proofs.lemmas.List.{same_lists, get_or_default}
 use Rattle.std.proofs.lemmas.Bool.{cases_lt}
 use Rattle.device.specs.Disk.{Shown}
 use Rattle.record.specs.Entry.{Entry}
 use Rattle.journal.specs.Log.{log}
-use Rattle.journal.specs.Opening.{Here, Names, Runs, Finds, Determined, Remembers, strays}
+use Rattle.journal.specs.Opening.{Names, Runs, Determined, Remembers, strays}
 
 pub same_low : (log : ℕ → Entry) (low low' : ℕ) → Names log low → Names log low' → low' ≡ low
 same_low log low low' n n' =

@@ -1,5 +1,5 @@
 -- The memory that records make, byte by byte. It has 6,144 bytes, in 64 pages of 96.
-use Rattle.std.specs.Prelude.{◌≡◌, ℕ, zero, suc, ◌+◌, ◌-◌, ◌*◌, ◌/◌, ◌%◌, ◌<◌, ◌≤◌, Bool, false, cond, List, length, nat_le, nat_lt, slice_index}
+use Rattle.std.specs.Prelude.{ℕ, zero, suc, ◌+◌, ◌-◌, ◌*◌, ◌/◌, ◌%◌, false, cond, List, length, nat_le, nat_lt, slice_index}
 use Rattle.device.specs.Disk.{Shown, spoiled, holds}
 use Rattle.record.specs.Entry.{Entry}
 

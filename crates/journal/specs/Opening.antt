@@ -1,6 +1,6 @@
 -- What an opening finds: a relation on what the sectors show once the device is restarted.
-use Rattle.std.specs.Prelude.{◌≡◌, ℕ, zero, suc, ◌+◌, ◌-◌, ◌*◌, ◌/◌, ◌%◌, ◌<◌, ◌≤◌, Bool, cond, List, length, nat_lt, slice_index}
-use Rattle.device.specs.Disk.{Shown, spoiled, holds}
+use Rattle.std.specs.Prelude.{◌≡◌, ℕ, zero, suc, ◌+◌, ◌-◌, ◌<◌, ◌≤◌, cond, List, length, nat_lt, slice_index}
+use Rattle.device.specs.Disk.{Shown, spoiled}
 use Rattle.record.specs.Entry.{Entry}
 use Rattle.journal.specs.Log.{log, said}
 use Rattle.journal.specs.Memory.{replayed, from_home}

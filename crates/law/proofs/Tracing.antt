@@ -1,5 +1,5 @@
 -- The writes and barriers that a call made, from what its relation says of the device.
-use Rattle.std.proofs.Common.{◌≡◌, ℕ, ◌≤◌, Bool, true, false, cond, not, ◌&&◌, leb, ◌≢◌, ◌⊎◌, List, [], ◌∷◌, ◌++◌, length, Some, None, Ok, Err, Option, Result, sym, refl, ap, ◌∙◌, subst, inl, inr, arith}
+use Rattle.std.proofs.Common.{◌≡◌, ℕ, Bool, true, false, cond, not, ◌&&◌, leb, List, [], ◌++◌, length, Some, None, Ok, Err, Option, Result, sym, refl, ap, ◌∙◌, subst, inl, inr, arith}
 use Rattle.std.proofs.lemmas.Bool.{le-leb, lt-leb}
 use Rattle.device.specs.Disk.{Disk}
 use Rattle.device.specs.Trace.{Act, Done}
@@ -8,8 +8,8 @@ use Rattle.image.specs.Calls.{declared, none}
 use Rattle.transactions.specs.declared.fault.StoreFault.{StoreFault}
 use Rattle.transactions.specs.declared.state.State.{State}
 use Rattle.transactions.specs.declared.token.Token.{Token}
-use Rattle.transactions.specs.Calls.{Commits, Flushes, writing}
-use Rattle.transactions.specs.Rows.{first_fit, off, token_rows, commit_rows}
+use Rattle.transactions.specs.Calls.{Commits, writing}
+use Rattle.transactions.specs.Rows.{first_fit, token_rows, commit_rows}
 use Rattle.transactions.specs.State.{spooled, own, LiesOn}
 use Rattle.law.specs.declared.script.Deed.{Deed}
 use Rattle.law.specs.declared.script.Deed.TheVariants.{Begin, SetRange, Write, Commit, Abort}

@@ -3,15 +3,14 @@ use Rattle.std.proofs.Common.{◌≡◌, ℕ, zero, suc, ◌+◌, ◌<◌, min, 
 use lib.Seq.{drop-nil}
 use Rattle.std.proofs.lemmas.List.{take_more, take_more_set}
 use Rattle.device.specs.Disk.{Disk}
-use Rattle.device.specs.Trace.{Act}
 use Rattle.transactions.specs.declared.state.State.{State}
 use Rattle.transactions.specs.State.{Formatted}
 use Rattle.law.specs.declared.script.Call.{Call}
 use Rattle.law.specs.declared.script.Answer.{Answer}
 use Rattle.law.specs.History.{History}
-use Rattle.law.specs.Events.{Moment, moment, Event, TakesPlace, Chain, calls_of, answers_of}
-use Rattle.law.specs.Law.{nothing_entered, history, after_event, AllLawful}
-use Rattle.law.specs.Run.{Stepped, Worked, LawfulRun, Ran}
+use Rattle.law.specs.Events.{Moment, moment, Event, Chain, calls_of, answers_of}
+use Rattle.law.specs.Law.{nothing_entered, history, AllLawful}
+use Rattle.law.specs.Run.{Stepped, Worked, Ran}
 use Rattle.law.proofs.Runs.{chain_snoc, history_snoc, lawful_snoc, calls_snoc, answers_snoc}
 use Rattle.law.proofs.Standing.{Standing, lies, begins, event}
 use Rattle.law.proofs.Steps.{step}

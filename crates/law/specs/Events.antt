@@ -1,5 +1,5 @@
 -- What happens in a run: each call, what it answered, and what it made of the store and the device.
-use Rattle.std.specs.Prelude.{◌≡◌, ℕ, ◌≤◌, min, Bool, true, false, cond, not, ◌&&◌, ◌⊎◌, List, [], ◌∷◌, ◌++◌, length, take, replicate, Some, None, Ok, Err, Option, Result, nat_le}
+use Rattle.std.specs.Prelude.{◌≡◌, ℕ, min, Bool, true, false, cond, not, ◌&&◌, ◌⊎◌, List, [], ◌∷◌, ◌++◌, length, take, replicate, Some, None, Ok, Err, Option, Result, nat_le}
 use Rattle.device.specs.Disk.{Disk}
 use Rattle.device.specs.Trace.{Act, Done, Cut}
 use Rattle.image.specs.Calls.{declared, none}

@@ -1,5 +1,5 @@
 -- The law: what is entered and kept, computed from the events of a run, and what holds of each event.
-use Rattle.std.specs.Prelude.{◌≡◌, ℕ, ◌<◌, ◌≤◌, Bool, true, false, cond, ◌||◌, List, [], ◌∷◌, ◌++◌, length, take, Some, None, Option, slice_index}
+use Rattle.std.specs.Prelude.{◌≡◌, ℕ, ◌<◌, ◌≤◌, Bool, true, false, cond, List, [], ◌∷◌, ◌++◌, length, take, Option, slice_index}
 use Rattle.device.specs.Trace.{Act, looked, wrote, settled, restarted}
 use Rattle.image.specs.Calls.{declared}
 use Rattle.transactions.specs.declared.fault.StoreFault.{StoreFault}
@@ -14,7 +14,7 @@ use Rattle.law.specs.declared.script.Answer.{Answer}
 use Rattle.law.specs.declared.script.Answer.TheVariants.{Idle, Done, Begun, Bytes, Committed, Flushed, Opened, No}
 use Rattle.law.specs.Transactions.{Transaction, made_of}
 use Rattle.law.specs.History.{History}
-use Rattle.law.specs.Events.{Event, Moment, held_in, does_enter}
+use Rattle.law.specs.Events.{Event, held_in, does_enter}
 
 -- At first nothing is entered.
 abbrev pub nothing_entered : History

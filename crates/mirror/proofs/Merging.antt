@@ -1,9 +1,9 @@
 -- What may stand in a mirror's sector, by what may stand on its sides.
-use Rattle.std.proofs.Common.{◌≡◌, ℕ, true, ◌⊎◌, List, [], ◌∷◌, ◌++◌, sym, refl, ap, ◌∙◌, subst, inl, inr, ⊎_elim, arith}
-use Rattle.device.specs.Disk.{Disk, Plate, Shown, spoiled, holds, Among, Stands}
+use Rattle.std.proofs.Common.{◌≡◌, ℕ, true, ◌⊎◌, List, [], ◌∷◌, refl, inl, inr, ⊎_elim, arith}
+use Rattle.device.specs.Disk.{Disk, Shown, spoiled, holds, Among, Stands}
 use Rattle.device.specs.Meaning.{NothingNew, Quiet}
 use Rattle.device.proofs.Membership.{among_left, among_right, among_split}
-use Rattle.mirror.specs.Sides.{sides, either, merged, mirrored, joined}
+use Rattle.mirror.specs.Sides.{sides, either, merged, mirrored}
 
 -- the mirror, where it is the same whether it is on and what it told last
 abbrev pub both : Disk → Disk → Disk

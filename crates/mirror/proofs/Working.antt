@@ -1,13 +1,13 @@
 -- Work on the sides in the mirror's order keeps the device meaning.
-use Rattle.std.proofs.Common.{◌≡◌, ℕ, ◌<◌, min, Bool, true, false, ◌≢◌, ◌⊎◌, List, [], ◌∷◌, ◌++◌, length, Ok, Err, sym, refl, ap, ◌∙◌, subst, inl, inr, ⊎_elim}
+use Rattle.std.proofs.Common.{◌≡◌, ℕ, ◌<◌, Bool, true, false, List, [], ◌∷◌, ◌++◌, length, Ok, Err, sym, refl, ap, ◌∙◌, subst, inl, inr, ⊎_elim}
 use Rattle.device.specs.declared.fault.DeviceFault.TheVariants.{Power, Misaddressed, Unfit, Spoiled}
 use Rattle.device.specs.Disk.{Disk, Plate, Shown, spoiled, holds, Among, Stands}
-use Rattle.device.specs.Meaning.{Answer, Addressed, NothingNew, Quiet, MayWrite, Lost, Failed, Wrote, Settled, Restarted, Read, Write, Barrier, Restart, told_after}
-use Rattle.device.specs.Trace.{Act, Does, Cut, Done, CutShort, wrote, settled, restarted, InTurn}
+use Rattle.device.specs.Meaning.{Answer, Addressed, NothingNew, Lost, Wrote, Settled, Restarted, Read, Write, Barrier, Restart, told_after}
+use Rattle.device.specs.Trace.{Act, wrote, settled, restarted, InTurn}
 use Rattle.device.proofs.Membership.{among_left, among_right}
-use Rattle.device.proofs.Changes.{Changed, Faded, done_one, done_two, cut_one, cut_two, faded_lost, faded_failed, not_astray, changed_wrote, changed_same, changed_cut, changed_more, settled_old, cut_origin, nothing_new_same}
+use Rattle.device.proofs.Changes.{Changed, Faded, done_one, done_two, cut_one, cut_two, faded_lost, faded_failed, not_astray, changed_wrote, changed_cut, changed_more, settled_old, cut_origin, nothing_new_same}
 use Rattle.mirror.specs.Sides.{Sides, sides, either, mirrored, joined, Writes, Settles, Restarts, Reads, Worked, stays}
-use Rattle.mirror.proofs.Merging.{both, Found, stands_found, found_stands, nothing_new, quiet_both}
+use Rattle.mirror.proofs.Merging.{both, stands_found, found_stands, nothing_new, quiet_both}
 
 -- this work took the sides l and r to l' and r'
 abbrev Together : (Sides → Answer → Sides → Type 0) → Disk → Disk → Disk → Disk → Answer → Type 0

@@ -1,5 +1,5 @@
 -- Every byte of a record's sector is a byte.
-use Rattle.std.proofs.Common.{ℕ, zero, suc, ◌-◌, ◌/◌, ◌%◌, ◌<◌, List, [], ◌∷◌, ◌++◌, length, get_or, replicate, mod-lt, arith}
+use Rattle.std.proofs.Common.{ℕ, zero, suc, ◌-◌, ◌/◌, ◌<◌, List, [], ◌∷◌, ◌++◌, length, get_or, replicate, mod-lt, arith}
 use Rattle.record.specs.Fields.{digits}
 use Rattle.record.specs.Entry.{Entry, laid_out}
 

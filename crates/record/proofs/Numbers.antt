@@ -1,5 +1,5 @@
 -- Numbers in bytes, the lowest byte first.
-use Rattle.std.proofs.Common.{◌≡◌, ℕ, zero, suc, ◌+◌, ◌*◌, ◌/◌, ◌%◌, ◌^◌, ◌<◌, List, [], ◌∷◌, length, get_or, refl, subst, pow-suc, arith}
+use Rattle.std.proofs.Common.{◌≡◌, ℕ, zero, suc, ◌+◌, ◌*◌, ◌/◌, ◌^◌, ◌<◌, List, [], ◌∷◌, length, get_or, refl, subst, pow-suc, arith}
 use Rattle.std.proofs.lemmas.Nat.{div_below}
 use Rattle.record.specs.Fields.{value, digits}
 

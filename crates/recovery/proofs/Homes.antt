@@ -1,9 +1,9 @@
 -- Pages started from their homes.
-use Rattle.std.proofs.Common.{◌≡◌, ℕ, ◌+◌, ◌-◌, ◌*◌, ◌/◌, ◌%◌, ◌<◌, ◌≤◌, Bool, true, false, cond, eqb, ◌⊎◌, List, length, get_or, replicate, sym, refl, ap, ◌∙◌, subst, inl, inr, ⊎_elim, arith}
+use Rattle.std.proofs.Common.{◌≡◌, ℕ, ◌+◌, ◌-◌, ◌*◌, ◌/◌, ◌%◌, ◌<◌, Bool, true, false, List, length, get_or, replicate, sym, refl, ap, ◌∙◌, ⊎_elim, arith}
 use lib.ListN.{get_or-replicate}
 use Rattle.std.proofs.lemmas.Bool.{cases_lt, cases_eq, eq-eqb, ne_eqb}
-use Rattle.device.specs.Disk.{Disk, Shown, spoiled, holds}
-use Rattle.journal.specs.Memory.{overlaid, byte_of, from_home}
+use Rattle.device.specs.Disk.{Disk, Shown, spoiled}
+use Rattle.journal.specs.Memory.{overlaid, byte_of}
 use Rattle.journal.proofs.Overlay.{overlaid_below, overlaid_within, overlaid_above}
 use Rattle.recovery.specs.Reading.{Fetched, HomeLoaded}
 

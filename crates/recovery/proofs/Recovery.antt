@@ -1,21 +1,21 @@
 -- From the steps of an opening to what it finds.
-use Rattle.std.proofs.Common.{◌≡◌, ℕ, zero, suc, ◌+◌, ◌-◌, ◌^◌, ◌<◌, ◌≤◌, Bool, true, false, ◌⊎◌, List, length, get_or, Some, None, Ok, Err, sym, refl, ap, ◌∙◌, subst, inl, inr, arith}
+use Rattle.std.proofs.Common.{◌≡◌, ℕ, zero, suc, ◌+◌, ◌-◌, ◌^◌, ◌<◌, ◌≤◌, Bool, true, false, List, length, get_or, Some, None, Err, ap, ◌∙◌, inl, inr, arith}
 use Rattle.device.specs.declared.fault.DeviceFault.{DeviceFault}
 use Rattle.device.specs.declared.fault.DeviceFault.TheVariants.{Power, Misaddressed, Unfit, Spoiled}
-use Rattle.device.specs.Disk.{Disk, Shown, spoiled}
+use Rattle.device.specs.Disk.{Disk, Shown}
 use Rattle.record.specs.Entry.{Entry}
 use Rattle.journal.specs.declared.survey.Survey.{Survey}
 use Rattle.journal.specs.declared.survey.LogFault.{LogFault}
 use Rattle.journal.specs.declared.survey.LogFault.TheVariants.{NoLog, NoMark}
 use Rattle.journal.specs.Log.{log}
 use Rattle.journal.specs.Memory.{applied, replayed, from_home}
-use Rattle.journal.specs.Opening.{Here, Runs, Usable, Remembers, Uncovered, Finds, strays}
+use Rattle.journal.specs.Opening.{Here, Uncovered, Finds, strays}
 use Rattle.journal.specs.Survey.{Surveyed, Surveys}
-use Rattle.journal.proofs.Places.{Kept, kept}
+use Rattle.journal.proofs.Places.{kept}
 use Rattle.recovery.specs.Fault.{from_log}
 use Rattle.recovery.specs.Reading.{HomesLoaded}
 use Rattle.recovery.specs.Clearing.{Yields, clearing}
-use Rattle.recovery.specs.Opening.{Sees, Rebuilt, Recovers, Opens}
+use Rattle.recovery.specs.Opening.{Sees, Rebuilt, Recovers}
 use Rattle.recovery.specs.declared.fault.RecoveryFault.{RecoveryFault}
 use Rattle.recovery.specs.declared.fault.RecoveryFault.TheVariants as fault
 

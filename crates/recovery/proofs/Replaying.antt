@@ -1,7 +1,7 @@
 -- Records applied to the memory in the order of their serials.
-use Rattle.std.proofs.Common.{◌≡◌, ℕ, suc, ◌+◌, ◌-◌, ◌*◌, ◌%◌, ◌<◌, ◌≤◌, true, false, cond, eqb, ◌⊎◌, List, [], length, get_or, sym, refl, ap, ◌∙◌, subst, inl, inr, ⊎_elim, arith}
+use Rattle.std.proofs.Common.{◌≡◌, ℕ, suc, ◌+◌, ◌-◌, ◌<◌, ◌≤◌, true, false, cond, eqb, List, [], length, get_or, sym, refl, ap, ◌∙◌, ⊎_elim, arith}
 use Rattle.std.proofs.lemmas.Bool.{cases_lt, eq-eqb, ne_eqb}
-use Rattle.device.specs.Disk.{Disk, Shown}
+use Rattle.device.specs.Disk.{Disk}
 use Rattle.record.specs.Entry.{Entry}
 use Rattle.record.specs.Good.{Fits}
 use Rattle.journal.specs.Log.{nothing, log, if_serial}

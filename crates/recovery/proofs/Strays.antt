@@ -1,12 +1,11 @@
 -- Strays cleared one after another.
-use Rattle.std.proofs.Common.{◌≡◌, ℕ, suc, ◌+◌, ◌-◌, ◌<◌, ◌≤◌, Bool, true, false, cond, ltb, List, [], ◌∷◌, ◌++◌, length, replicate, Ok, Err, Result, sym, refl, ap, ◌∙◌, subst, add-one, arith}
+use Rattle.std.proofs.Common.{◌≡◌, ℕ, suc, ◌+◌, ◌-◌, ◌<◌, ◌≤◌, Bool, true, false, cond, List, ◌∷◌, Err, sym, refl, ap, ◌∙◌, subst, add-one, arith}
 use Rattle.device.specs.declared.fault.DeviceFault.{DeviceFault}
 use Rattle.device.specs.declared.fault.DeviceFault.TheVariants.{Power, Misaddressed, Unfit, Spoiled}
 use Rattle.device.specs.Disk.{Disk, Plate, Shown}
-use Rattle.device.specs.Meaning.{Answer, Wrote, Write}
-use Rattle.device.specs.Trace.{Act, wrote, settled, Done, Tries}
+use Rattle.device.specs.Meaning.{Wrote, Write}
+use Rattle.device.specs.Trace.{Act, wrote, Done, Tries}
 use Rattle.device.proofs.Plans.{Working, work_begins, work_goes, work_ends, work_cut, write_tried}
-use Rattle.journal.specs.Log.{said}
 use Rattle.journal.specs.Opening.{strays}
 use Rattle.recovery.specs.Format.{blank}
 use Rattle.recovery.specs.Clearing.{Yields, astray, blanking}

@@ -1,5 +1,5 @@
 -- What writing a record does.
-use Rattle.std.specs.Prelude.{ℕ, ◌%◌, ◌≤◌, List, [], ◌∷◌, length}
+use Rattle.std.specs.Prelude.{ℕ, ◌%◌, ◌≤◌, [], ◌∷◌, length}
 use Rattle.device.specs.Disk.{Disk}
 use Rattle.device.specs.Meaning.{Answer}
 use Rattle.device.specs.Trace.{wrote, Tries}

@@ -1,6 +1,5 @@
 -- An open store, and what format and opening make it.
-use Rattle.std.specs.Prelude.{◌≡◌, ℕ, Bool, true, false, ◌⊎◌, List, replicate, Ok, Err, Result}
-use Rattle.device.specs.declared.fault.DeviceFault.{DeviceFault}
+use Rattle.std.specs.Prelude.{◌≡◌, ℕ, true, false, replicate, Ok, Err, Result}
 use Rattle.device.specs.declared.fault.DeviceFault.TheVariants.{Power, Misaddressed, Unfit, Spoiled}
 use Rattle.device.specs.Disk.{Disk}
 use Rattle.device.specs.Meaning.{Restarted}

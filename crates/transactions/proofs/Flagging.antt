@@ -1,8 +1,8 @@
 -- Flags of pages, and the pages that a test chooses.
-use Rattle.std.proofs.Common.{◌≡◌, ℕ, zero, suc, ◌+◌, ◌-◌, ◌<◌, ◌≤◌, Bool, true, false, cond, not, eqb, List, [], ◌∷◌, length, get_or, set, sym, refl, ap, ◌∙◌, subst, inl, inr, ⊎_elim, arith, get_or-set_other, get_or-set_same}
+use Rattle.std.proofs.Common.{◌≡◌, ℕ, zero, suc, ◌+◌, ◌-◌, ◌<◌, ◌≤◌, Bool, true, false, cond, eqb, List, [], ◌∷◌, length, get_or, set, sym, refl, ap, ◌∙◌, subst, inl, inr, ⊎_elim, arith, get_or-set_other, get_or-set_same}
 use Rattle.std.proofs.lemmas.Bool.{cases_eq, eq-eqb, ne_eqb}
 use Rattle.device.specs.Disk.{Among}
-use Rattle.transactions.specs.Pages.{flag, Flags, Raised}
+use Rattle.transactions.specs.Pages.{flag, Raised}
 use Rattle.transactions.specs.Truncation.{chosen}
 
 -- What is chosen of the pages from i up to n begins with i, where i passes.

@@ -1,5 +1,5 @@
 -- Records written one after another.
-use Rattle.std.proofs.Common.{◌≡◌, ℕ, zero, suc, ◌+◌, ◌%◌, ◌<◌, ◌≤◌, Bool, true, false, cond, eqb, List, [], ◌∷◌, ◌++◌, map, length, get_or, take, drop, Ok, Err, sym, refl, ap, ◌∙◌, subst, ⊎_elim, add-zero, add-one, arith, length-append, length-take, drop-cons, get_or-take}
+use Rattle.std.proofs.Common.{◌≡◌, ℕ, zero, suc, ◌+◌, ◌%◌, ◌<◌, ◌≤◌, Bool, false, cond, eqb, List, [], ◌∷◌, ◌++◌, map, length, get_or, take, drop, Err, sym, refl, ap, ◌∙◌, subst, ⊎_elim, add-zero, add-one, arith, length-append, length-take, drop-cons, get_or-take}
 use Rattle.std.proofs.lemmas.Bool.{cases_eq, eq-eqb, ne_eqb}
 use Rattle.std.proofs.lemmas.List.{length-map, get_or-map, drop_all, take_more}
 use Rattle.device.specs.declared.fault.DeviceFault.{DeviceFault}
@@ -13,7 +13,7 @@ use Rattle.image.specs.declared.runs.Pieces.{Pieces}
 use Rattle.image.specs.Cut.{FitsPage, AllPieces, piece}
 use Rattle.transactions.specs.declared.spool.Spool.{Spool}
 use Rattle.transactions.specs.declared.state.State.{State}
-use Rattle.transactions.specs.Parts.{part, parts, kind_before, item_of, waiting}
+use Rattle.transactions.specs.Parts.{part, parts, item_of, waiting}
 use Rattle.transactions.specs.State as state
 use Rattle.transactions.specs.Steps.{PiecesOf}
 

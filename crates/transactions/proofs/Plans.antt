@@ -1,11 +1,11 @@
 -- What a flush and a commit write, and what their tests let through.
-use Rattle.std.proofs.Common.{◌≡◌, ℕ, suc, ◌+◌, ◌-◌, ◌^◌, ◌<◌, ◌≤◌, Bool, true, false, cond, not, ltb, ◌≢◌, List, [], ◌∷◌, ◌++◌, length, take, Some, None, Ok, Err, Option, sym, refl, ap, ◌∙◌, subst, ⊎_elim, add-zero, arith}
+use Rattle.std.proofs.Common.{◌≡◌, ℕ, suc, ◌+◌, ◌-◌, ◌^◌, ◌<◌, ◌≤◌, Bool, true, false, cond, not, ltb, ◌≢◌, List, [], ◌∷◌, ◌++◌, length, take, Some, None, Err, Option, sym, refl, ap, ◌∙◌, subst, ⊎_elim, add-zero, arith}
 use Rattle.std.proofs.lemmas.Bool.{cases_lt, ltb-false}
 use Rattle.device.specs.declared.fault.DeviceFault.{DeviceFault}
 use Rattle.device.specs.declared.fault.DeviceFault.TheVariants.{Power, Misaddressed, Unfit, Spoiled}
 use Rattle.device.specs.Disk.{Disk}
 use Rattle.device.specs.Meaning.{Answer, Barrier}
-use Rattle.device.specs.Trace.{Act, settled, Done, CutShort, Tries}
+use Rattle.device.specs.Trace.{Act, settled, Done, Tries}
 use Rattle.device.proofs.Plans.{work_begins, plan_cut, tries_after, barrier_tried, done_plate}
 use Rattle.durability.specs.Items.{Item, appending}
 use Rattle.image.specs.declared.run.Piece.{Piece}

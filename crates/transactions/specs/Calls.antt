@@ -1,5 +1,5 @@
 -- What each call answers and leaves, on every way out.
-use Rattle.std.specs.Prelude.{◌≡◌, ℕ, ◌+◌, ◌≤◌, Bool, true, false, cond, ◌≢◌, ◌⊎◌, List, [], ◌∷◌, ◌++◌, length, Some, None, Ok, Err, Result}
+use Rattle.std.specs.Prelude.{◌≡◌, ℕ, ◌+◌, ◌≤◌, Bool, true, false, ◌≢◌, ◌⊎◌, List, [], ◌∷◌, ◌++◌, length, Some, None, Ok, Err, Result}
 use Rattle.device.specs.declared.fault.DeviceFault.TheVariants.{Power}
 use Rattle.device.specs.Disk.{Disk}
 use Rattle.device.specs.Trace.{Act, settled, Done, CutShort}

@@ -1,5 +1,5 @@
 -- The records that a transaction becomes.
-use Rattle.std.specs.Prelude.{ℕ, ◌/◌, ◌%◌, Bool, true, false, cond, List, [], ◌∷◌, map, length, take, drop}
+use Rattle.std.specs.Prelude.{ℕ, ◌/◌, ◌%◌, cond, List, [], ◌∷◌, map, take, drop}
 use Rattle.durability.specs.Items.{Item}
 use Rattle.image.specs.declared.run.Piece.{Piece}
 use Rattle.transactions.specs.declared.spool.Spool.{Spool}

@@ -1,11 +1,10 @@
 -- What the inner steps of the calls do.
-use Rattle.std.specs.Prelude.{◌≡◌, ℕ, ◌+◌, ◌^◌, ◌<◌, ◌≤◌, Bool, true, false, ◌⊎◌, List, [], ◌∷◌, ◌++◌, length, take, Some, None, Ok, Err, Option, Result}
+use Rattle.std.specs.Prelude.{◌≡◌, ℕ, Bool, false, ◌⊎◌, take, Some, None, Ok, Err, Option, Result}
 use Rattle.image.specs.declared.runs.Pieces.{Pieces}
 use Rattle.image.specs.Calls.{declared, Kept}
 use Rattle.image.specs.Cut.{cut_runs}
 use Rattle.transactions.specs.declared.fault.StoreFault.{StoreFault}
 use Rattle.transactions.specs.declared.state.State.{State}
-use Rattle.transactions.specs.State.{own, spooled, StandsAt}
 use Rattle.device.specs.Disk.{Disk}
 use Rattle.transactions.specs.Calls.{CommitsParts, CommitRefused, CommitCut}
 

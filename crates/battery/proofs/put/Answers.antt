@@ -1,6 +1,6 @@
 -- What a write to one part of the bytes leaves in each sector.
 use Rattle.std.proofs.Common.{◌≡◌, ◌+◌, ◌*◌, ◌≤◌, length, ap, ◌∙◌, arith}
-use Rattle.battery.specs.Memory.{cell, put}
+use Rattle.battery.specs.Memory.{cell}
 use Rattle.device.proofs.Sectors.{put_made, put_there, put_elsewhere}
 use Rattle.battery.proofs.put.Goals as goal
 

@@ -1,5 +1,5 @@
 -- A sector that displaces the longest held one: sent down or cut, then taken in.
-use Rattle.std.proofs.Common.{◌≡◌, ◌<◌, List, [], ◌∷◌, ◌++◌, length, refl, ap, ◌∙◌, arith}
+use Rattle.std.proofs.Common.{◌≡◌, List, [], ◌∷◌, ◌++◌, length, ap, ◌∙◌, arith}
 use Rattle.std.proofs.lemmas.Result.{err_from_is_err_and}
 use Rattle.cache.proofs.Lines.{lines_length}
 use Rattle.cache.proofs.Sending.{displaced_meaning, displaced_exact, displaced_sound, not_displaced_meaning, not_displaced_exact, not_displaced_sound}

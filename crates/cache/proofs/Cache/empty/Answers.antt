@@ -1,5 +1,4 @@
 -- A barrier: all sent down and settled, or cut in either part.
-use Rattle.std.proofs.Common.{◌≡◌, sym, refl, ◌∙◌}
 use Rattle.std.proofs.lemmas.Result.{err_from_is_err_and}
 use Rattle.cache.proofs.Sending.{emptied_sound, finished, stopped, stopped_sound}
 use Rattle.cache.specs.State.{state}

@@ -1,9 +1,8 @@
 -- All are sent down: one more, a cut, and the end.
-use Rattle.std.proofs.Common.{◌≡◌, Ok, Err, sym, refl, ◌∙◌, arith}
+use Rattle.std.proofs.Common.{Ok, Err, arith}
 use Rattle.std.proofs.lemmas.List.{nil_from_length}
 use Rattle.std.proofs.lemmas.Result.{err_from_is_err_and}
 use Rattle.cache.proofs.Sending.{all_more, all_stop, all_none}
-use Rattle.cache.specs.Held.{in_turn}
 use Rattle.cache.specs.State.{state}
 use Rattle.cache.proofs.Cache.send_all.Goals as goal
 

@@ -1,5 +1,5 @@
 -- The format succeeded and the calls were made, or it was refused.
-use Rattle.std.proofs.Common.{◌≡◌, None, Ok, Err, Result, sym, refl, ap, subst}
+use Rattle.std.proofs.Common.{Ok, Err, Result, sym, refl, ap, subst}
 use Rattle.device.specs.Disk.{Disk}
 use Rattle.transactions.specs.declared.fault.StoreFault.{StoreFault}
 use Rattle.transactions.specs.State.{Formatted}

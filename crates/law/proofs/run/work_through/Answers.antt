@@ -1,5 +1,5 @@
 -- Each turn makes one call more.
-use Rattle.std.proofs.Common.{◌≡◌, ◌<◌, length, arith}
+use Rattle.std.proofs.Common.{◌<◌, length, arith}
 use Rattle.std.proofs.lemmas.List.{get_or_default}
 use Rattle.law.specs.Events.{moment}
 use Rattle.law.proofs.Working.{so_far_goes}

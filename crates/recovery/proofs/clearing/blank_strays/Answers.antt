@@ -1,13 +1,11 @@
 -- Each turn clears one place more, or passes it over.
-use Rattle.std.proofs.Common.{◌≡◌, ℕ, ◌<◌, ◌≤◌, true, false, length, get_or, sym, refl, ap, ◌∙◌, subst, arith}
+use Rattle.std.proofs.Common.{◌≡◌, ◌<◌, ◌≤◌, length, arith}
 use Rattle.std.proofs.lemmas.Result.{err_from_is_err_and}
 use Rattle.std.proofs.lemmas.Bool.{lt-ltb, le-ltb}
 use Rattle.journal.specs.Log.{said}
-use Rattle.journal.specs.Notes.{blank}
-use Rattle.device.specs.Disk.{Disk}
 use Rattle.recovery.specs.Clearing.{astray, blanking}
 use Rattle.journal.specs.Opening.{strays}
-use Rattle.recovery.proofs.Strays.{ClearedTo, clear_begins, clear_writes, clear_passes, clear_cut, clear_ends, yields_cut}
+use Rattle.recovery.proofs.Strays.{clear_begins, clear_writes, clear_passes, clear_cut, clear_ends, yields_cut}
 use Rattle.recovery.proofs.clearing.blank_strays.Goals as goal
 use Rattle.recovery.proofs.clearing.blank_strays.Goals.{then-notes-place+in_ok-write, else-notes-place}
 

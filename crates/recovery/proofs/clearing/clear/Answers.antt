@@ -1,5 +1,5 @@
 -- The strays, and then the barrier.
-use Rattle.std.proofs.Common.{◌≡◌, [], ◌∷◌, ◌++◌, length, Ok, Err}
+use Rattle.std.proofs.Common.{◌≡◌, [], ◌∷◌, length, Ok, Err}
 use Rattle.std.proofs.lemmas.Result.{err_from_is_err_and}
 use Rattle.device.specs.Trace.{settled}
 use Rattle.device.proofs.Plans.{work_begins, plan_cut, tries_after, barrier_tried}

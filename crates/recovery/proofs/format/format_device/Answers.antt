@@ -1,5 +1,5 @@
 -- All zeros first, then the mark.
-use Rattle.std.proofs.Common.{◌≡◌, ℕ, ◌+◌, ◌%◌, ◌≤◌, [], ◌∷◌, ◌++◌, Ok, Err, sym, subst, arith}
+use Rattle.std.proofs.Common.{ℕ, ◌+◌, ◌%◌, ◌≤◌, [], ◌∷◌, Err, sym, subst, arith}
 use Rattle.std.proofs.lemmas.Result.{err_from_is_err_and}
 use Rattle.device.specs.Disk.{Plate}
 use Rattle.device.specs.Trace.{wrote, settled, restarted, Tries, Done}

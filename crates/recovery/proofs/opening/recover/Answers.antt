@@ -1,5 +1,5 @@
 -- The steps of a recovery, each on the device as the one before left it.
-use Rattle.std.proofs.Common.{◌≡◌, ℕ, length, Ok, Err, sym, ap, ◌∙◌, subst, arith}
+use Rattle.std.proofs.Common.{◌≡◌, ℕ, length, Ok, Err, ◌∙◌, subst, arith}
 use Rattle.std.proofs.lemmas.Result.{err_from_is_err_and}
 use Rattle.device.specs.Disk.{Disk}
 use Rattle.journal.specs.Opening.{strays}

@@ -1,10 +1,10 @@
 -- The record that was read is what the sector says.
-use Rattle.std.proofs.Common.{◌≡◌, length, get_or, sym, refl, ap, ◌∙◌, subst}
-use Rattle.record.specs.Entry.{Entry, entry, reads_as}
+use Rattle.std.proofs.Common.{length, get_or, sym, ap, ◌∙◌, subst}
+use Rattle.record.specs.Entry.{Entry, entry}
 use Rattle.record.specs.Good.{Fits}
 use Rattle.record.proofs.Laws.{good_sound}
 use Rattle.device.specs.Disk.{holds}
-use Rattle.journal.specs.Log.{said, if_serial, nothing}
+use Rattle.journal.specs.Log.{said, if_serial}
 use Rattle.journal.specs.Memory.{applied}
 use Rattle.journal.proofs.Places.{said_good, said_bad}
 use Rattle.recovery.proofs.Replaying.{serial_here, serial_else, serial_nothing, applied_nothing, inside}

@@ -1,5 +1,5 @@
 -- Each byte of a part that was copied over.
-use Rattle.std.proofs.Common.{◌≡◌, ℕ, ◌+◌, ◌-◌, length, arith}
+use Rattle.std.proofs.Common.{◌≡◌, ◌+◌, ◌-◌, length, arith}
 use Rattle.journal.proofs.Overlay.{put_overlaid}
 use Rattle.recovery.proofs.reading.put_bytes.Goals as goal
 

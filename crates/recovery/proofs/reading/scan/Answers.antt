@@ -1,8 +1,8 @@
 -- One place more is noted.
-use Rattle.std.proofs.Common.{◌≡◌, ℕ, ◌<◌, ◌≢◌, length, get_or, set, sym, ap, ◌∙◌, subst, arith, get_or-set_other, get_or-set_same, below_more}
+use Rattle.std.proofs.Common.{◌<◌, ◌≢◌, length, ◌∙◌, subst, arith, get_or-set_other, get_or-set_same, below_more}
 use Rattle.device.specs.Disk.{Disk}
 use Rattle.journal.specs.Log.{said}
-use Rattle.journal.specs.Notes.{Notes, blank}
+use Rattle.journal.specs.Notes.{Notes}
 use Rattle.recovery.proofs.reading.scan.Goals as goal
 
 pub loop-place-preserved : goal.loop-place-preserved

@@ -1,5 +1,5 @@
 -- The log that was noted is the one that was surveyed.
-use Rattle.std.proofs.Common.{◌≡◌, length}
+use Rattle.std.proofs.Common.{length}
 use Rattle.std.proofs.lemmas.Result.{err_from_is_err_and}
 use Rattle.journal.specs.Notes.{Noted}
 use Rattle.journal.specs.Survey.{Surveyed}

@@ -1,6 +1,6 @@
 -- Homes first, then the records.
-use Rattle.std.proofs.Common.{◌≡◌, ℕ, ◌+◌, ◌-◌, ◌≤◌, length, get_or, Option, sym, ap, ◌∙◌, subst, arith}
-use Rattle.device.specs.Disk.{Disk, Plate}
+use Rattle.std.proofs.Common.{◌≡◌, ℕ, ◌+◌, ◌-◌, ◌≤◌, get_or, Option, sym, ◌∙◌, subst, arith}
+use Rattle.device.specs.Disk.{Disk}
 use Rattle.journal.specs.Log.{log}
 use Rattle.journal.specs.Memory.{replayed}
 use Rattle.store.specs.Reading.{HomesLoaded}

@@ -1,5 +1,5 @@
 -- The first 96 bytes of the home are the page.
-use Rattle.std.proofs.Common.{◌≡◌, ℕ, ◌+◌, ◌<◌, List, length, get_or, take, rules}
+use Rattle.std.proofs.Common.{◌≡◌, ℕ, ◌<◌, length, get_or, take, rules}
 use Rattle.std.proofs.lemmas.List.{places}
 use Rattle.store.proofs.Homes.{home_loaded}
 use Rattle.store.proofs.reading.load_home.Goals as goal

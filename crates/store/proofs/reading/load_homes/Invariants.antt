@@ -1,5 +1,5 @@
 -- The pages below are loaded, and those of them that are spoiled are covered.
-use Rattle.std.proofs.Common.{◌≡◌, ℕ, ◌+◌, ◌*◌, ◌<◌, true, false, length, get_or}
+use Rattle.std.proofs.Common.{◌≡◌, ℕ, ◌+◌, ◌*◌, ◌<◌, true, false, get_or}
 use Rattle.device.specs.Disk.{spoiled}
 use Rattle.journal.specs.Memory.{from_home}
 use Rattle.store.proofs.reading.load_homes.Given as goal

@@ -1,5 +1,5 @@
 -- The places below are noted.
-use Rattle.std.proofs.Common.{◌≡◌, ℕ, ◌<◌, length, get_or}
+use Rattle.std.proofs.Common.{◌≡◌, ℕ, ◌<◌, get_or}
 use Rattle.journal.specs.Log.{said}
 use Rattle.journal.specs.Notes.{Notes, blank}
 use Rattle.store.proofs.reading.scan.Given as goal

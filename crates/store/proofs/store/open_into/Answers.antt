@@ -1,5 +1,4 @@
 -- What the opening found is what the store is set on.
-use Rattle.std.proofs.Common.{◌≡◌, ℕ, ◌-◌, sym, refl, ap, ◌∙◌, subst, arith}
 use Rattle.store.proofs.Recovery.{opened}
 use Rattle.store.proofs.store.open_into.Goals as goal
 

@@ -1,5 +1,5 @@
 -- The records are written, and the state says so.
-use Rattle.std.proofs.Common.{◌≡◌, true, ◌++◌, refl, arith}
+use Rattle.std.proofs.Common.{true, ◌++◌, refl, arith}
 use Rattle.std.proofs.lemmas.Result.{err_from_is_err_and}
 use Rattle.transactions.specs.State.{spooled, own}
 use Rattle.transactions.proofs.Plans.{roomy, writing_cut, some_pieces, passes_own}

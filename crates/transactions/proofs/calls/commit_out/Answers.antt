@@ -1,5 +1,5 @@
 -- What waits is written, then the pieces, and then there is a barrier.
-use Rattle.std.proofs.Common.{◌≡◌, ℕ, ◌≤◌, true, List, [], ◌∷◌, ◌++◌, Err, sym, ap, subst, arith}
+use Rattle.std.proofs.Common.{◌≤◌, true, List, [], ◌∷◌, ◌++◌, Err, sym, ap, subst, arith}
 use Rattle.std.proofs.lemmas.Result.{err_from_is_err_and}
 use Rattle.device.specs.Trace.{Act, settled, Tries}
 use Rattle.device.proofs.Plans.{tries_after, done_plate}

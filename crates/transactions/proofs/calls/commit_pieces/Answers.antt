@@ -1,7 +1,5 @@
 -- There is room, or the transaction is undone.
-use Rattle.std.proofs.Common.{◌≡◌, Bool, true, false, sym, refl, subst, inl, inr, arith}
-use Rattle.device.specs.Disk.{Disk}
-use Rattle.transactions.specs.declared.state.State.{State}
+use Rattle.std.proofs.Common.{Bool, sym, refl, subst, inl, arith}
 use Rattle.transactions.specs.Calls.{Enters}
 use Rattle.transactions.proofs.Plans.{roomy, some_pieces, pieces_fit, passes_own, refused_own}
 use Rattle.transactions.proofs.calls.commit_pieces.Goals as goal

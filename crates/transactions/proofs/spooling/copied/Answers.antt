@@ -1,5 +1,5 @@
 -- The bytes that were copied stand in front.
-use Rattle.std.proofs.Common.{◌≡◌, ℕ, ◌+◌, ◌-◌, ◌≤◌, List, length, take, drop, ap, ◌∙◌, arith, length-drop, length-take, take_all}
+use Rattle.std.proofs.Common.{◌≡◌, ℕ, ◌+◌, ◌-◌, ◌≤◌, length, take, drop, ap, ◌∙◌, arith, length-drop, length-take, take_all}
 use lib.Seq.{take-append-le}
 use Rattle.transactions.proofs.spooling.copied.Goals as goal
 

@@ -1,5 +1,5 @@
 -- Each turn writes one piece more.
-use Rattle.std.proofs.Common.{ℕ, ◌+◌, arith}
+use Rattle.std.proofs.Common.{◌+◌, arith}
 use Rattle.std.proofs.lemmas.Result.{err_from_is_err_and}
 use Rattle.transactions.proofs.Loops.{append_goes, append_cut, append_ends, own, part_at, next_own, length_own, fits_listed}
 use Rattle.transactions.proofs.writing.write_pieces.Goals as goal

@@ -1,5 +1,5 @@
 -- Going from the end, the first slot of the sector has what is kept for it.
-use Rattle.std.proofs.Common.{◌≡◌, ℕ, ◌+◌, ◌-◌, ◌<◌, ◌≤◌, [], sym, ap, ◌∙◌, arith, rules}
+use Rattle.std.proofs.Common.{◌≡◌, ◌+◌, ◌-◌, ap, arith}
 use Rattle.std.proofs.lemmas.List.{drop_all}
 use Rattle.cache.specs.Line.{kept}
 use Rattle.cache.specs.Held.{in_turn}

@@ -1,5 +1,5 @@
 -- Every slot of the sector is given its bytes.
-use Rattle.std.proofs.Common.{◌≡◌, ◌<◌, length, sym, ap, ◌∙◌, arith}
+use Rattle.std.proofs.Common.{◌<◌, length, ap, ◌∙◌, arith}
 use Rattle.cache.specs.declared.held.Held.{Held}
 use Rattle.cache.specs.Line.{rewritten}
 use Rattle.cache.proofs.Lines.{renew_this, renew_other, renew_all, lines_renewed, lines}

@@ -1,5 +1,5 @@
 -- What waits has one part more.
-use Rattle.std.proofs.Common.{◌≡◌, ◌+◌, ◌<◌, List, [], ◌∷◌, ◌++◌, map, length, take, set, refl, ap, ◌∙◌, arith}
+use Rattle.std.proofs.Common.{◌<◌, List, [], ◌∷◌, map, length, take, refl, ap, ◌∙◌, arith}
 use Rattle.std.proofs.lemmas.List.{take_more_set, map-append}
 use Rattle.transactions.specs.declared.spool.Spooled.{Spooled}
 use Rattle.transactions.specs.Parts.{item_of}

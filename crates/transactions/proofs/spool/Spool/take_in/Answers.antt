@@ -1,7 +1,7 @@
 -- Each turn adds one part more.
-use Rattle.std.proofs.Common.{◌≡◌, ℕ, ◌+◌, ◌<◌, cond, eqb, List, [], ◌∷◌, ◌++◌, length, get_or, take, drop, sym, refl, ap, ◌∙◌, subst, append_assoc, arith, take_all}
+use Rattle.std.proofs.Common.{◌+◌, cond, eqb, List, [], ◌∷◌, ◌++◌, get_or, take, sym, ap, ◌∙◌, append_assoc, arith, take_all}
 use Rattle.durability.specs.Items.{Item}
-use Rattle.transactions.specs.Parts.{part, parts, item_of, waiting}
+use Rattle.transactions.specs.Parts.{part, waiting}
 use Rattle.transactions.proofs.Loops.{fits_listed, taken_part, length_own, own, none}
 use Rattle.transactions.proofs.spool.Spool.take_in.Goals as goal
 

@@ -1,5 +1,5 @@
 -- The last serial goes up by what waited and by the transaction's own records.
-use Rattle.std.proofs.Common.{◌≡◌, ℕ, ◌+◌, sym, refl, ap}
+use Rattle.std.proofs.Common.{ℕ, ◌+◌, sym, refl, ap}
 use Rattle.transactions.proofs.Loops.{length_of_own, length_all}
 use Rattle.transactions.proofs.state.State.committed.Goals as goal
 

@@ -1,5 +1,5 @@
 -- The spool grows by the transaction's own records.
-use Rattle.std.proofs.Common.{◌≡◌, ℕ, ◌+◌, List, ◌++◌, sym, refl, ap, ◌∙◌}
+use Rattle.std.proofs.Common.{ℕ, ◌+◌, List, ◌++◌, sym, refl, ap, ◌∙◌}
 use Rattle.durability.specs.Items.{Item}
 use Rattle.transactions.specs.Parts.{waiting}
 use Rattle.transactions.proofs.Loops.{own_is, length_of_own}
