@@ -61,12 +61,12 @@ abbrev pub misaddressed : Card → ℕ → Answer
 misaddressed c s = Err (Misaddressed s c.origin)
 
 -- The device after a call: these bytes and flags, so many codes taken, on or off; the rest stays.
-pub record Left (c : Card) (bs fs : List ℕ) (n : ℕ) (is-on : Bool) (e : Card) : Type 0 where
+pub record Left (c : Card) (bs fs : List ℕ) (n : ℕ) (is_on : Bool) (e : Card) : Type 0 where
   pub bytes : e.bytes ≡ bs
   pub flags : e.flags ≡ fs
   pub plan : e.plan ≡ c.plan
   pub taken : e.taken ≡ n
-  pub on : e.on ≡ is-on
+  pub on : e.on ≡ is_on
   pub origin : e.origin ≡ c.origin
 
 -- These bytes were put into sector s, which is not spoiled then.

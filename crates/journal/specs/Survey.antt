@@ -1,5 +1,5 @@
 -- What an analysis of the notes finds: of the notes themselves, and of the log that they tell of.
-use Rattle.std.specs.Prelude.{◌≡◌, ℕ, ◌+◌, ◌%◌, ◌^◌, ◌<◌, ◌≤◌, Bool, true, false, cond, List, length, get_or, Some, None, Ok, Err, Option, Result, ◌==◌, nat_le, nat_lt, slice_index_or, slice_set}
+use Rattle.std.specs.Prelude.{◌≡◌, ℕ, ◌+◌, ◌%◌, ◌^◌, ◌<◌, ◌≤◌, Bool, true, false, cond, List, length, Some, None, Ok, Err, Option, Result, ◌==◌, nat_le, nat_lt, slice_index_or, slice_set}
 use Rattle.device.specs.Disk.{Shown}
 use Rattle.record.specs.declared.Head.{Head}
 use Rattle.journal.specs.declared.note.Note.{Note}
@@ -22,7 +22,7 @@ abbrev pub kind_of : List Note → ℕ → ℕ
 kind_of notes s = kind_number (by_serial notes s).kind
 
 abbrev pub kind_at : List Note → ℕ → ℕ
-kind_at notes p = kind_number (get_or notes p blank).kind
+kind_at notes p = kind_number (slice_index_or notes p blank).kind
 
 -- The head of the note's record if that is later than the best so far.
 abbrev pub later_of : Option Head → Note → Option Head
@@ -34,8 +34,8 @@ pub record Best (notes : List Note) (k : ℕ) (h : Head) : Type 0 where
   pub place : ℕ
   pub below : place < k
   pub there : 1 ≤ kind_at notes place
-  pub head : (get_or notes place blank).head ≡ h
-  pub greatest : (p : ℕ) → p < k → 1 ≤ kind_at notes p → (get_or notes p blank).head.serial ≤ h.serial
+  pub head : (slice_index_or notes place blank).head ≡ h
+  pub greatest : (p : ℕ) → p < k → 1 ≤ kind_at notes p → (slice_index_or notes p blank).head.serial ≤ h.serial
 
 abbrev pub Bare : List Note → ℕ → Type 0
 Bare notes k = (p : ℕ) → p < k → kind_at notes p ≡ 0

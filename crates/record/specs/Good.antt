@@ -1,5 +1,5 @@
 -- Which sectors are good.
-use Rattle.std.specs.Prelude.{◌≡◌, ℕ, ◌+◌, ◌-◌, ◌%◌, ◌^◌, ◌<◌, ◌≤◌, List, length, slice_index, slice_index_or}
+use Rattle.std.specs.Prelude.{◌≡◌, ℕ, ◌+◌, ◌-◌, ◌%◌, ◌^◌, ◌<◌, ◌≤◌, List, length, slice_index}
 use Rattle.record.specs.Fields.{field}
 use Rattle.record.specs.Entry.{Entry}
 
@@ -24,7 +24,7 @@ pub record Fits (kind page offset size : ℕ) : Type 0 where
 -- A sector that is good at this place of a log of so many sectors.
 pub record Good (places place : ℕ) (sector : List ℕ) : Type 0 where
   pub long : length sector ≡ 128
-  pub blank : slice_index_or sector 31 0 ≡ 0
+  pub blank : slice_index sector 31 ≡ 0
   pub placed : Placed places place (field 0 8 sector) (field 8 8 sector) (field 16 8 sector)
   pub fits : Fits (slice_index sector 30) (field 24 2 sector) (field 26 2 sector) (field 28 2 sector)
 

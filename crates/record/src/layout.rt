@@ -1,6 +1,6 @@
 // Laying a record out in the bytes of a sector, from the front to the end.
 ghost use Rattle.std.specs.Prelude.{◌≡◌, ◌+◌, ◌-◌, ◌<◌, ◌≤◌, [], ◌++◌, length, take, replicate};
-ghost use Rattle.record.specs.Entry.{laid_out, label as label-bytes};
+ghost use Rattle.record.specs.Entry.{laid_out, label as label_bytes};
 ghost use Rattle.record.specs.Fields.{digits};
 ghost use Rattle.record.specs.Label.{spelled};
 
@@ -50,7 +50,7 @@ fn put_head(sector: &mut [u8], head: Head)
 // Puts the label into the front of the sector.
 fn put_label(sector: &mut [u8], label: Label)
     requires { (length sector.old ≡ 128) × (label.length ≤ 96) }
-    ensures { take 32 sector.new ≡ label-bytes (spelled label []) label.length }
+    ensures { take 32 sector.new ≡ label_bytes (spelled label []) label.length }
 {
     put_head(sector, label.head);
     put_short(sector, 24, label.page);

@@ -2,19 +2,10 @@
 ghost use Rattle.transactions.specs.declared.token.Token.{Token};
 ghost use Rattle.std.specs.Prelude.{◌≡◌};
 
-// It has the number of the transaction that it was given for, by which alone it fits.
+// It has the number of the transaction that it was given for, by which alone it fits. It may not be let go,
+// having no `Drop`: a program that forgets one on any way out is refused.
 pub struct Token {
     number: u64,
-}
-
-// A token may not be let go: its drop asks for what nobody can show, so that a program that forgets
-// one on any way out is not proved.
-impl Drop for Token {
-    fn drop(self)
-        requires { ⊥ }
-    {
-        let Token { number: _ } = self;
-    }
 }
 
 impl Token {
