@@ -143,6 +143,14 @@ told_after t (Err (Misaddressed _ _)) = t
 told_after t (Err Unfit) = t
 told_after t (Err (Spoiled _ _)) = t
 
+-- Whether a layer is on once a call below has answered so, and it hands the answer up: failing power turns it off.
+abbrev pub on_after : Answer → Bool
+on_after (Ok _) = true
+on_after (Err (Power _)) = false
+on_after (Err (Misaddressed _ _)) = true
+on_after (Err Unfit) = true
+on_after (Err (Spoiled _ _)) = true
+
 -- The tests before any work on sector s with a buffer of n bytes, in their order.
 abbrev pub Admitted : Bool → ℕ → ℕ → ℕ → ℕ → Answer → Type 0
 Admitted on sectors origin s n (Ok _) = (on ≡ true) × (s < sectors) × (n ≡ 128)

@@ -7,8 +7,10 @@ ghost use Rattle.device.specs.Meaning.{Admitted, Read, Write, Barrier, Restart, 
 ghost use Rattle.std.specs.Prelude.{◌≡◌};
 
 mod fault;
+mod power;
 
 pub use fault::DeviceFault;
+pub use power::Power;
 
 // The number of bytes in a sector.
 pub const SECTOR: usize = 128;

@@ -61,6 +61,17 @@ impl<'a> Record<'a> {
     {
         Self::Mark { head }
     }
+
+    // What the record tells of its log.
+    pub fn head(&self) -> Head
+        ensures serial { result.serial ≡ (entry self.now).serial }
+        ensures low { result.low ≡ (entry self.now).low }
+        ensures ordinal { result.ordinal ≡ (entry self.now).ordinal }
+    {
+        match *self {
+            Record::Part { head, .. } | Record::Page { head, .. } | Record::Mark { head } => head,
+        }
+    }
 }
 
 // The record in a sector at this place of a log of so many sectors, or none where the sector is not
