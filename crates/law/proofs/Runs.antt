@@ -1,9 +1,8 @@
 -- Runs that take one event more.
 use Rattle.std.proofs.Common.{◌≡◌, List, [], ◌∷◌, ◌++◌, refl, ap, ◌∙◌}
 use Rattle.law.specs.declared.script.Call.{Call}
-use Rattle.law.specs.declared.script.Answer.{Answer}
 use Rattle.law.specs.History.{History}
-use Rattle.law.specs.Events.{Moment, Event, Happens, Chain, calls_of, answers_of}
+use Rattle.law.specs.Events.{Answer, Moment, Event, Happens, Chain, calls_of, answers_of}
 use Rattle.law.specs.Law.{after_event, history, Lawful, AllLawful}
 
 pub chain_snoc : (m m' : Moment) (es : List Event) (e : Event) → Chain m es m' → e.before ≡ m' → Happens e → Chain m (es ++ (e ∷ [])) e.after

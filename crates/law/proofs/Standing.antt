@@ -14,10 +14,9 @@ use Rattle.transactions.specs.Parts.{waiting}
 use Rattle.transactions.specs.Rows.{Row, first_fit, off, busy, stranger, token_rows}
 use Rattle.transactions.specs.State.{Formatted, LiesOn, MadeOf}
 use Rattle.law.specs.declared.script.Call.{Call}
-use Rattle.law.specs.declared.script.Answer.{Answer}
 use Rattle.law.specs.Transactions.{made_of}
 use Rattle.law.specs.History.{History, Resting, Safe, Sound}
-use Rattle.law.specs.Events.{Moment, Event}
+use Rattle.law.specs.Events.{Answer, Moment, Event}
 use Rattle.law.specs.Law.{nothing_entered}
 use Rattle.law.proofs.Openings.{rest_safe, new_rests}
 use Rattle.law.proofs.Committing.{no_fit}

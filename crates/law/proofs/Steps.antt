@@ -20,11 +20,10 @@ use Rattle.transactions.specs.Calls.{Begins, OnImage, Undone, Aborts, Flushes, C
 use Rattle.law.specs.declared.script.Deed.TheVariants.{Begin, SetRange, Write, Commit, Abort}
 use Rattle.law.specs.declared.script.Call.{Call}
 use Rattle.law.specs.declared.script.Call.TheVariants.{With, Read, Flush, Reopen}
-use Rattle.law.specs.declared.script.Answer.{Answer}
-use Rattle.law.specs.declared.script.Answer.TheVariants as answer
+use Rattle.law.specs.declared.script.Told.TheVariants as told
 use Rattle.law.specs.Transactions.{Transaction, made_of}
 use Rattle.law.specs.History.{History, Resting, Sound}
-use Rattle.law.specs.Events.{Moment, held_in, Passed, Acts, Traced, TakesPlace, told_commit, told_flush, told_open, fits_none, does_enter, commit_plan, flush_plan}
+use Rattle.law.specs.Events.{Answer, Moment, held_in, Passed, Acts, Traced, TakesPlace, told_commit, told_flush, told_open, fits_none, does_enter, commit_plan, flush_plan}
 use Rattle.law.specs.Law.{own_transaction, settles, with_barrier, entered_after, after_opening, after_event, OpensLawfully, AllKept, Lawful}
 use Rattle.law.proofs.Openings.{open_found, open_failed}
 use Rattle.law.proofs.Committing.{entering, all_kept, empty_kept, flush_done, flush_cut, commit_done, commit_cut, commit_spooled}
@@ -195,7 +194,7 @@ module _ (n : ℕ) (s s' : State) (d e : Disk) (h : History) (w : Sound n s d h)
   -- What a commit does to what is entered and kept, and its law.
   abbrev CommitKeeps : Option Token → Bool → Answer → Type 0
   CommitKeeps held flush a =
-      ((o k : ℕ) → a ≡ answer.Committed o k → flush ≡ true → 1 ≤ k → AllKept (After (does_enter s held flush) s made h))
+      ((o k : ℕ) → a ≡ Ok (told.Committed o k) → flush ≡ true → 1 ≤ k → AllKept (After (does_enter s held flush) s made h))
       × Sound n s' e (After (does_enter s held flush) s made h)
 
   commit_passes : (t : Token) (flush : Bool) (x : ℕ × ℕ) (a : Answer) → first_fit (token_rows s t.number) ≡ None → Traced (commit_plan s (Some t) flush) d made e → CommitsParts s d flush x s' e → CommitKeeps (Some t) flush a
@@ -242,7 +241,7 @@ module _ (n : ℕ) (s s' : State) (d e : Disk) (h : History) (w : Sound n s d h)
 
   -- Its law, and what it keeps.
   abbrev FlushKeeps : Answer → Type 0
-  FlushKeeps a = ((k : ℕ) → a ≡ answer.Flushed k → AllKept (with_barrier made h.entered h.kept)) × Sound n s' e (with_barrier made h.entered h.kept)
+  FlushKeeps a = ((k : ℕ) → a ≡ Ok (told.Flushed k) → AllKept (with_barrier made h.entered h.kept)) × Sound n s' e (with_barrier made h.entered h.kept)
 
   -- one that writes nothing
   flush_none : s' ≡ s → e ≡ d → s.on && leb 1 s.spool.count ≡ false → Traced (flush_plan s) d made e → (with_barrier made h.entered h.kept ≡ h) × Sound n s' e (with_barrier made h.entered h.kept)

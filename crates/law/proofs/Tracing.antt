@@ -13,12 +13,11 @@ use Rattle.transactions.specs.Rows.{first_fit, token_rows, commit_rows}
 use Rattle.transactions.specs.State.{spooled, own, LiesOn}
 use Rattle.law.specs.declared.script.Deed.{Deed}
 use Rattle.law.specs.declared.script.Deed.TheVariants.{Begin, SetRange, Write, Commit, Abort}
-use Rattle.law.specs.declared.script.Answer.{Answer}
 use Rattle.law.specs.declared.script.Call.{Call}
 use Rattle.law.specs.declared.script.Call.TheVariants.{With, Read, Flush}
 use Rattle.law.specs.declared.script.Slot.TheVariants.{First, Second}
 use Rattle.law.specs.Run.{Stepped}
-use Rattle.law.specs.Events.{Moment, moment, Acts, Reading, Flushing, Traced, does_enter, fits_none, commit_plan, flush_plan, deed_plan}
+use Rattle.law.specs.Events.{Answer, Moment, moment, Acts, Reading, Flushing, Traced, does_enter, fits_none, commit_plan, flush_plan, deed_plan}
 use Rattle.law.proofs.Cuts.{cut_at}
 use Rattle.law.proofs.Steps.{passing}
 

@@ -6,9 +6,8 @@ use Rattle.device.specs.Disk.{Disk}
 use Rattle.transactions.specs.declared.state.State.{State}
 use Rattle.transactions.specs.State.{Formatted}
 use Rattle.law.specs.declared.script.Call.{Call}
-use Rattle.law.specs.declared.script.Answer.{Answer}
 use Rattle.law.specs.History.{History}
-use Rattle.law.specs.Events.{Moment, moment, Event, Chain, calls_of, answers_of}
+use Rattle.law.specs.Events.{Answer, Moment, moment, Event, Chain, calls_of, answers_of}
 use Rattle.law.specs.Law.{nothing_entered, history, AllLawful}
 use Rattle.law.specs.Run.{Stepped, Worked, Ran}
 use Rattle.law.proofs.Runs.{chain_snoc, history_snoc, lawful_snoc, calls_snoc, answers_snoc}

@@ -15,8 +15,12 @@ use Rattle.law.specs.declared.script.Deed.{Deed}
 use Rattle.law.specs.declared.script.Deed.TheVariants.{Begin, SetRange, Write, Commit, Abort}
 use Rattle.law.specs.declared.script.Call.{Call}
 use Rattle.law.specs.declared.script.Call.TheVariants.{With, Read, Flush, Reopen}
-use Rattle.law.specs.declared.script.Answer.{Answer}
-use Rattle.law.specs.declared.script.Answer.TheVariants as answer
+use Rattle.law.specs.declared.script.Told.{Told}
+use Rattle.law.specs.declared.script.Told.TheVariants as told
+
+-- What a call of a script answers: what it is told as, or the store's refusal.
+abbrev pub Answer : Type 0
+Answer = Result Told StoreFault
 
 -- The run between two calls: the store, its device, and the tokens that are held.
 pub record Moment : Type 0 where
@@ -38,25 +42,25 @@ pub record Event : Type 0 where
   pub made : List Act
 
 -- What the answers of the store's calls are told as.
-abbrev pub told : Result (Unit {0}) StoreFault → Answer
-told (Ok _) = answer.Done
-told (Err f) = answer.No f
+abbrev pub told_done : Result (Unit {0}) StoreFault → Answer
+told_done (Ok _) = Ok told.Done
+told_done (Err f) = Err f
 
 abbrev pub told_commit : Result (ℕ × ℕ) StoreFault → Answer
-told_commit (Ok x) = answer.Committed x.0 x.1
-told_commit (Err f) = answer.No f
+told_commit (Ok x) = Ok (told.Committed x.0 x.1)
+told_commit (Err f) = Err f
 
 abbrev pub told_flush : Result ℕ StoreFault → Answer
-told_flush (Ok k) = answer.Flushed k
-told_flush (Err f) = answer.No f
+told_flush (Ok k) = Ok (told.Flushed k)
+told_flush (Err f) = Err f
 
 abbrev pub told_open : Result (ℕ × ℕ) StoreFault → Answer
-told_open (Ok x) = answer.Opened x.0 x.1
-told_open (Err f) = answer.No f
+told_open (Ok x) = Ok (told.Opened x.0 x.1)
+told_open (Err f) = Err f
 
 abbrev pub told_read : Result (Unit {0}) StoreFault → List ℕ → Answer
-told_read (Ok _) bytes = answer.Bytes bytes
-told_read (Err f) bytes = answer.No f
+told_read (Ok _) bytes = Ok (told.Bytes bytes)
+told_read (Err f) bytes = Err f
 
 -- The token in a place, and that only this place has another token afterwards.
 abbrev pub held_in : Slot → Moment → Option Token
@@ -69,7 +73,7 @@ HoldsThen Second m held m' = (m'.second ≡ held) × (m'.first ≡ m.first)
 
 -- No call was made.
 pub record Passed (s : State) (d : Disk) (held : Option Token) (a : Answer) (s' : State) (e : Disk) (held' : Option Token) : Type 0 where
-  pub idle : a ≡ answer.Idle
+  pub idle : a ≡ Ok told.Idle
   pub state : s' ≡ s
   pub device : e ≡ d
   pub token : held' ≡ held
@@ -78,20 +82,20 @@ pub record Passed (s : State) (d : Disk) (held : Option Token) (a : Answer) (s' 
 abbrev pub Acts : Deed → State → Disk → Option Token → Answer → State → Disk → Option Token → Type 0
 Acts Begin s d (Some t) a s' e held = Passed s d (Some t) a s' e held
 Acts Begin s d None a s' e held =
-    (e ≡ d) × (((t : Token) × (a ≡ answer.Begun t.number) × (held ≡ Some t) × Begins s (Ok t) s')
-    ⊎ ((f : StoreFault) × (a ≡ answer.No f) × (held ≡ None) × Begins s (Err f) s'))
+    (e ≡ d) × (((t : Token) × (a ≡ Ok (told.Begun t.number)) × (held ≡ Some t) × Begins s (Ok t) s')
+    ⊎ ((f : StoreFault) × (a ≡ Err f) × (held ≡ None) × Begins s (Err f) s'))
 Acts (SetRange start size) s d None a s' e held = Passed s d None a s' e held
 Acts (SetRange start size) s d (Some t) a s' e held =
-    (e ≡ d) × (held ≡ Some t) × ((r : Result (Unit {0}) StoreFault) × (a ≡ told r) × SetsRange s t.number start size r s')
+    (e ≡ d) × (held ≡ Some t) × ((r : Result (Unit {0}) StoreFault) × (a ≡ told_done r) × SetsRange s t.number start size r s')
 Acts (Write start bytes) s d None a s' e held = Passed s d None a s' e held
 Acts (Write start bytes) s d (Some t) a s' e held =
-    (e ≡ d) × (held ≡ Some t) × ((r : Result (Unit {0}) StoreFault) × (a ≡ told r) × WritesRange s t.number start bytes.now r s')
+    (e ≡ d) × (held ≡ Some t) × ((r : Result (Unit {0}) StoreFault) × (a ≡ told_done r) × WritesRange s t.number start bytes.now r s')
 Acts (Commit flush) s d None a s' e held = Passed s d None a s' e held
 Acts (Commit flush) s d (Some t) a s' e held =
     (held ≡ None) × ((r : Result (ℕ × ℕ) StoreFault) × (a ≡ told_commit r) × Commits s d t.number flush r s' e)
 Acts Abort s d None a s' e held = Passed s d None a s' e held
 Acts Abort s d (Some t) a s' e held =
-    (e ≡ d) × (held ≡ None) × ((r : Result (Unit {0}) StoreFault) × (a ≡ told r) × Aborts s t.number r s')
+    (e ≡ d) × (held ≡ None) × ((r : Result (Unit {0}) StoreFault) × (a ≡ told_done r) × Aborts s t.number r s')
 
 -- Reads up to 96 bytes, flushes, or is closed and opened again.
 abbrev pub Reading : State → ℕ → ℕ → Answer → Type 0

@@ -1,5 +1,5 @@
 -- The law: what is entered and kept, computed from the events of a run, and what holds of each event.
-use Rattle.std.specs.Prelude.{◌≡◌, ℕ, ◌<◌, ◌≤◌, Bool, true, false, cond, List, [], ◌∷◌, ◌++◌, length, take, Option, slice_index}
+use Rattle.std.specs.Prelude.{◌≡◌, ℕ, ◌<◌, ◌≤◌, Bool, true, false, cond, List, [], ◌∷◌, ◌++◌, length, take, Ok, Err, Option, slice_index}
 use Rattle.device.specs.Trace.{Act, looked, wrote, settled, restarted}
 use Rattle.image.specs.Calls.{declared}
 use Rattle.transactions.specs.declared.fault.StoreFault.{StoreFault}
@@ -10,11 +10,10 @@ use Rattle.law.specs.declared.script.Deed.{Deed}
 use Rattle.law.specs.declared.script.Deed.TheVariants.{Begin, SetRange, Write, Commit, Abort}
 use Rattle.law.specs.declared.script.Call.{Call}
 use Rattle.law.specs.declared.script.Call.TheVariants.{With, Read, Flush, Reopen}
-use Rattle.law.specs.declared.script.Answer.{Answer}
-use Rattle.law.specs.declared.script.Answer.TheVariants.{Idle, Done, Begun, Bytes, Committed, Flushed, Opened, No}
+use Rattle.law.specs.declared.script.Told.TheVariants.{Idle, Done, Begun, Bytes, Committed, Flushed, Opened}
 use Rattle.law.specs.Transactions.{Transaction, made_of}
 use Rattle.law.specs.History.{History}
-use Rattle.law.specs.Events.{Event, held_in, does_enter}
+use Rattle.law.specs.Events.{Answer, Event, held_in, does_enter}
 
 -- At first nothing is entered.
 abbrev pub nothing_entered : History
@@ -43,14 +42,14 @@ entered_after false s entered = entered
 
 -- Those found at an opening are the first entered; they alone are then entered and kept.
 abbrev pub after_opening : Answer → History → History
-after_opening Idle h = h
-after_opening Done h = h
-after_opening (Begun _) h = h
-after_opening (Bytes _) h = h
-after_opening (Committed _ _) h = h
-after_opening (Flushed _) h = h
-after_opening (Opened found _) h = record { entered = take found h.entered; kept = found }
-after_opening (No _) h = h
+after_opening (Ok Idle) h = h
+after_opening (Ok Done) h = h
+after_opening (Ok (Begun _)) h = h
+after_opening (Ok (Bytes _)) h = h
+after_opening (Ok (Committed _ _)) h = h
+after_opening (Ok (Flushed _)) h = h
+after_opening (Ok (Opened found _)) h = record { entered = take found h.entered; kept = found }
+after_opening (Err _) h = h
 
 abbrev pub after_deed : Deed → Event → Option Token → History → History
 after_deed Begin e held h = h
@@ -77,10 +76,10 @@ history h (e ∷ es) = history (after_event e h) es
 -- An opening finds at least what is kept and at most what is entered, and its memory is exactly the first that
 -- many, applied to zeros in the order of their commits. It fails only where power does.
 pub record OpensLawfully (a : Answer) (memory : List ℕ) (h : History) : Type 0 where
-  pub kept : (found strays : ℕ) → a ≡ Opened found strays → h.kept ≤ found
-  pub entered : (found strays : ℕ) → a ≡ Opened found strays → found ≤ length h.entered
-  pub memory_is : (found strays : ℕ) → a ≡ Opened found strays → (i : ℕ) → i < 6144 → slice_index memory i ≡ made_of (take found h.entered) i
-  pub only_power : (f : StoreFault) → a ≡ No f → number f ≡ 1
+  pub kept : (found strays : ℕ) → a ≡ Ok (Opened found strays) → h.kept ≤ found
+  pub entered : (found strays : ℕ) → a ≡ Ok (Opened found strays) → found ≤ length h.entered
+  pub memory_is : (found strays : ℕ) → a ≡ Ok (Opened found strays) → (i : ℕ) → i < 6144 → slice_index memory i ≡ made_of (take found h.entered) i
+  pub only_power : (f : StoreFault) → a ≡ Err f → number f ≡ 1
 
 -- All that is entered is kept.
 abbrev pub AllKept : History → Type 0
@@ -91,13 +90,13 @@ abbrev pub LawfulDeed : Deed → Event → History → Type 0
 LawfulDeed Begin e h = Unit {0}
 LawfulDeed (SetRange _ _) e h = Unit {0}
 LawfulDeed (Write _ _) e h = Unit {0}
-LawfulDeed (Commit flush) e h = (o k : ℕ) → e.answer ≡ Committed o k → flush ≡ true → 1 ≤ k → AllKept (after_event e h)
+LawfulDeed (Commit flush) e h = (o k : ℕ) → e.answer ≡ Ok (Committed o k) → flush ≡ true → 1 ≤ k → AllKept (after_event e h)
 LawfulDeed Abort e h = Unit {0}
 
 abbrev pub LawfulCall : Call → Event → History → Type 0
 LawfulCall (With slot deed) e h = LawfulDeed deed e h
 LawfulCall (Read _ _) e h = Unit {0}
-LawfulCall Flush e h = (k : ℕ) → e.answer ≡ Flushed k → AllKept (after_event e h)
+LawfulCall Flush e h = (k : ℕ) → e.answer ≡ Ok (Flushed k) → AllKept (after_event e h)
 LawfulCall Reopen e h = OpensLawfully e.answer e.after.state.image.memory h
 
 abbrev pub Lawful : Event → History → Type 0

@@ -5,11 +5,15 @@ use Rattle.device.specs.Trace.{Act}
 use Rattle.transactions.specs.declared.fault.StoreFault.{StoreFault}
 use Rattle.transactions.specs.declared.state.State.{State}
 use Rattle.transactions.specs.State.{Formatted, LiesOn}
+use Rattle.law.specs.declared.run.Run.{Run}
 use Rattle.law.specs.declared.script.Call.{Call}
-use Rattle.law.specs.declared.script.Answer.{Answer}
-use Rattle.law.specs.Events.{Moment, moment, Event, TakesPlace, Chain, calls_of, answers_of}
+use Rattle.law.specs.Events.{Answer, Moment, moment, Event, TakesPlace, Chain, calls_of, answers_of}
 use Rattle.law.specs.History.{Sound}
 use Rattle.law.specs.Law.{nothing_entered, AllLawful}
+
+-- Where a run stands, by what shows the disk of its device.
+abbrev pub moment_of : {D : Type 0} → (D → Disk) → Run D → Moment
+moment_of disk r = moment r.store.state (disk r.store.device) r.first r.second
 
 -- One call of a script took place.
 abbrev pub Stepped : Call → Moment → Answer → Moment → Type 0

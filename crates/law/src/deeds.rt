@@ -1,103 +1,27 @@
 // The calls of a script, one at a time.
-ghost use Rattle.law.specs.Events.{Acts, Reading, Flushing, Opening, told, told_commit};
+ghost use Rattle.law.specs.Events.{Acts, Reading, Flushing, Opening};
 ghost use Rattle.transactions.specs.State.{LiesOn};
-ghost use Rattle.std.specs.Prelude.{◌≡◌};
+ghost use Rattle.std.specs.Prelude.{◌≡◌, None};
 
-use crate::script::{Answer, Deed};
+use crate::script::{Answer, Deed, Told};
 use device::Device;
-use transactions::{Store, StoreFault, Token};
-
-fn tell(answer: Result<(), StoreFault>) -> Answer
-    ensures { result ≡ told answer }
-{
-    match answer {
-        Ok(()) => Answer::Done,
-        Err(fault) => Answer::No(fault),
-    }
-}
-
-fn tell_commit(answer: Result<(u64, usize), StoreFault>) -> Answer
-    ensures { result ≡ told_commit answer }
-{
-    match answer {
-        Ok((ordinal, records)) => Answer::Committed(ordinal, records),
-        Err(fault) => Answer::No(fault),
-    }
-}
+use transactions::{Store, Token};
 
 // Begins a transaction where no token is held here.
-fn begin<D: Device>(store: &mut Store<D>, held: Option<Token>) -> (Option<Token>, Answer)
-    ensures { Acts Deed.Begin store.old.state (D.Device.disk store.old.device) held result.1 store.new.state (D.Device.disk store.new.device) result.0 }
+fn begin<D: Device>(store: &mut Store<D>) -> (Option<Token>, Answer)
+    ensures { Acts Deed.Begin store.old.state (D.Device.disk store.old.device) None result.1 store.new.state (D.Device.disk store.new.device) result.0 }
 {
-    if let Some(token) = held {
-        return (Some(token), Answer::Idle);
-    }
     match store.begin() {
         Ok(token) => {
             let number = token.number();
-            (Some(token), Answer::Begun(number))
+            (Some(token), Ok(Told::Begun(number)))
         }
-        Err(fault) => (None, Answer::No(fault)),
+        Err(fault) => (None, Err(fault)),
     }
 }
 
-fn commit<D: Device>(
-    store: &mut Store<D>,
-    held: Option<Token>,
-    flush: bool,
-) -> (Option<Token>, Answer)
-    ensures { LiesOn store.old.state (D.Device.disk store.old.device) → Acts (Deed.Commit flush) store.old.state (D.Device.disk store.old.device) held result.1 store.new.state (D.Device.disk store.new.device) result.0 }
-{
-    match held {
-        None => (None, Answer::Idle),
-        Some(token) => (None, tell_commit(store.commit(token, flush))),
-    }
-}
-
-fn set_range<D: Device>(
-    store: &mut Store<D>,
-    held: Option<Token>,
-    start: usize,
-    size: usize,
-) -> (Option<Token>, Answer)
-    ensures { Acts (Deed.SetRange start size) store.old.state (D.Device.disk store.old.device) held result.1 store.new.state (D.Device.disk store.new.device) result.0 }
-{
-    match held {
-        None => (None, Answer::Idle),
-        Some(token) => {
-            let answer = tell(store.set_range(&token, start, size));
-            (Some(token), answer)
-        }
-    }
-}
-
-fn write<D: Device>(
-    store: &mut Store<D>,
-    held: Option<Token>,
-    start: usize,
-    bytes: &[u8],
-) -> (Option<Token>, Answer)
-    ensures { Acts (Deed.Write start bytes.entry) store.old.state (D.Device.disk store.old.device) held result.1 store.new.state (D.Device.disk store.new.device) result.0 }
-{
-    match held {
-        None => (None, Answer::Idle),
-        Some(token) => {
-            let answer = tell(store.write(&token, start, bytes));
-            (Some(token), answer)
-        }
-    }
-}
-
-fn abort<D: Device>(store: &mut Store<D>, held: Option<Token>) -> (Option<Token>, Answer)
-    ensures { Acts Deed.Abort store.old.state (D.Device.disk store.old.device) held result.1 store.new.state (D.Device.disk store.new.device) result.0 }
-{
-    match held {
-        None => (None, Answer::Idle),
-        Some(token) => (None, tell(store.abort(token))),
-    }
-}
-
-// What a script does with a token, and the token that is then held in its place.
+// What a script does with a token, and the token that is then held in its place. A second one is not begun
+// there, and without one there is nothing else to do.
 pub(crate) fn act<D: Device>(
     store: &mut Store<D>,
     held: Option<Token>,
@@ -105,12 +29,26 @@ pub(crate) fn act<D: Device>(
 ) -> (Option<Token>, Answer)
     ensures { LiesOn store.old.state (D.Device.disk store.old.device) → Acts deed.entry store.old.state (D.Device.disk store.old.device) held result.1 store.new.state (D.Device.disk store.new.device) result.0 }
 {
-    match deed {
-        Deed::Begin => begin(store, held),
-        Deed::SetRange(start, size) => set_range(store, held, start, size),
-        Deed::Write(start, bytes) => write(store, held, start, bytes),
-        Deed::Commit(flush) => commit(store, held, flush),
-        Deed::Abort => abort(store, held),
+    match (held, deed) {
+        (None, Deed::Begin) => begin(store),
+        (None, _) => (None, Ok(Told::Idle)),
+        (Some(token), Deed::Begin) => (Some(token), Ok(Told::Idle)),
+        (Some(token), Deed::SetRange(start, size)) => {
+            let answer = store.set_range(&token, start, size);
+            (Some(token), answer.map(|()| Told::Done))
+        }
+        (Some(token), Deed::Write(start, bytes)) => {
+            let answer = store.write(&token, start, bytes);
+            (Some(token), answer.map(|()| Told::Done))
+        }
+        (Some(token), Deed::Commit(flush)) => {
+            let answer = store.commit(token, flush);
+            (
+                None,
+                answer.map(|(ordinal, records)| Told::Committed(ordinal, records)),
+            )
+        }
+        (Some(token), Deed::Abort) => (None, store.abort(token).map(|()| Told::Done)),
     }
 }
 
@@ -120,19 +58,14 @@ pub(crate) fn read<D: Device>(store: &Store<D>, start: usize, size: usize) -> An
 {
     let mut bytes = [0u8; 96];
     let count = size.min(96);
-    match store.read(start, &mut bytes[0..count]) {
-        Ok(()) => Answer::Bytes(bytes),
-        Err(fault) => Answer::No(fault),
-    }
+    store.read(start, &mut bytes[0..count])?;
+    Ok(Told::Bytes(bytes))
 }
 
 pub(crate) fn flush<D: Device>(store: &mut Store<D>) -> Answer
     ensures { LiesOn store.old.state (D.Device.disk store.old.device) → Flushing store.old.state (D.Device.disk store.old.device) result store.new.state (D.Device.disk store.new.device) }
 {
-    match store.flush() {
-        Ok(records) => Answer::Flushed(records),
-        Err(fault) => Answer::No(fault),
-    }
+    store.flush().map(Told::Flushed)
 }
 
 // Closes the store, and opens it again on its device.
@@ -140,9 +73,8 @@ pub(crate) fn reopen<D: Device>(store: Store<D>) -> (Store<D>, Answer)
     ensures { Opening (D.Device.disk store.device) result.1 (D.Device.disk result.0.device) result.0.state }
 {
     let (store, answer) = Store::open(store.close());
-    let told = match answer {
-        Ok((found, strays)) => Answer::Opened(found, strays),
-        Err(fault) => Answer::No(fault),
-    };
-    (store, told)
+    (
+        store,
+        answer.map(|(found, strays)| Told::Opened(found, strays)),
+    )
 }

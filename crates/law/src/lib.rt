@@ -7,4 +7,4 @@ mod run;
 mod script;
 
 pub use run::work;
-pub use script::{Answer, Call, Deed, Slot};
+pub use script::{Answer, Call, Deed, Slot, Told};

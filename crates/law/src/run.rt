@@ -1,6 +1,5 @@
 // A run: a store worked by a script, from a format on.
-ghost use Rattle.law.specs.Events.{Moment, moment};
-ghost use Rattle.law.specs.Run.{Ran, Stepped, Worked};
+ghost use Rattle.law.specs.Run.{Ran, Stepped, Worked, moment_of};
 ghost use Rattle.std.specs.Prelude.{◌≡◌};
 
 use crate::deeds::{act, flush, read, reopen};
@@ -15,72 +14,74 @@ pub struct Run<D> {
     second: Option<Token>,
 }
 
-// Does something with the token in a place.
-fn with_token<D: Device>(run: Run<D>, slot: Slot, deed: Deed) -> (Run<D>, Answer)
-    ensures { Stepped (Call.With slot deed.entry) (moment run.store.state (D.Device.disk run.store.device) run.first run.second) result.1 (moment result.0.store.state (D.Device.disk result.0.store.device) result.0.first result.0.second) }
-{
-    let Run {
-        mut store,
-        first,
-        second,
-    } = run;
-    match slot {
-        Slot::First => {
-            let (first, answer) = act(&mut store, first, deed);
-            (
-                Run {
-                    store,
-                    first,
-                    second,
-                },
-                answer,
-            )
-        }
-        Slot::Second => {
-            let (second, answer) = act(&mut store, second, deed);
-            (
-                Run {
-                    store,
-                    first,
-                    second,
-                },
-                answer,
-            )
+impl<D: Device> Run<D> {
+    // Does something with the token in a place.
+    fn with_token(mut self, slot: Slot, deed: Deed) -> (Self, Answer)
+        ensures { Stepped (Call.With slot deed.entry) (moment_of D.Device.disk self) result.1 (moment_of D.Device.disk result.0) }
+    {
+        match slot {
+            Slot::First => {
+                let (first, answer) = act(&mut self.store, self.first, deed);
+                self.first = first;
+                (self, answer)
+            }
+            Slot::Second => {
+                let (second, answer) = act(&mut self.store, self.second, deed);
+                self.second = second;
+                (self, answer)
+            }
         }
     }
-}
 
-// Makes one call of a script.
-fn step<D: Device>(run: Run<D>, call: Call) -> (Run<D>, Answer)
-    ensures { Stepped call.entry (moment run.store.state (D.Device.disk run.store.device) run.first run.second) result.1 (moment result.0.store.state (D.Device.disk result.0.store.device) result.0.first result.0.second) }
-{
-    match call {
-        Call::With(slot, deed) => with_token(run, slot, deed),
-        Call::Read(start, size) => {
-            let answer = read(&run.store, start, size);
-            (run, answer)
+    // Makes one call of a script.
+    fn step(mut self, call: Call) -> (Self, Answer)
+        ensures { Stepped call.entry (moment_of D.Device.disk self) result.1 (moment_of D.Device.disk result.0) }
+    {
+        match call {
+            Call::With(slot, deed) => self.with_token(slot, deed),
+            Call::Read(start, size) => {
+                let answer = read(&self.store, start, size);
+                (self, answer)
+            }
+            Call::Flush => {
+                let answer = flush(&mut self.store);
+                (self, answer)
+            }
+            Call::Reopen => {
+                let (store, answer) = reopen(self.store);
+                self.store = store;
+                (self, answer)
+            }
         }
-        Call::Flush => {
-            let mut run = run;
-            let answer = flush(&mut run.store);
-            (run, answer)
+    }
+
+    // Makes the calls of a script, as far as there is room for answers, and says how many that were.
+    fn work_through(self, calls: &[Call], answers: &mut [Answer]) -> (Self, usize)
+        ensures { Worked (moment_of D.Device.disk self) calls.now answers.old result.1 answers.new (moment_of D.Device.disk result.0) }
+    {
+        let mut run = self;
+        let count = calls.len().min(answers.len());
+        // A chain that writes the answers too tells nothing of them, so they are written by their place.
+        for (i, call) in calls[..count].iter().enumerate() {
+            let (next, answer) = run.step(*call);
+            run = next;
+            answers[i] = answer;
         }
-        Call::Reopen => {
-            let Run {
-                store,
-                first,
-                second,
-            } = run;
-            let (store, answer) = reopen(store);
-            (
-                Run {
-                    store,
-                    first,
-                    second,
-                },
-                answer,
-            )
-        }
+        (run, count)
+    }
+
+    // Ends the run: tokens that are still held are spent, and the device is given back.
+    fn end(self) -> D
+        ensures { result ≡ self.store.device }
+    {
+        let Run {
+            mut store,
+            first,
+            second,
+        } = self;
+        spend(&mut store, first);
+        spend(&mut store, second);
+        store.close()
     }
 }
 
@@ -88,40 +89,9 @@ fn step<D: Device>(run: Run<D>, call: Call) -> (Run<D>, Answer)
 fn spend<D: Device>(store: &mut Store<D>, held: Option<Token>)
     ensures { store.new.device ≡ store.old.device }
 {
-    match held {
-        Some(token) => {
-            let _ = store.abort(token);
-        }
-        None => {}
+    if let Some(token) = held {
+        let _ = store.abort(token);
     }
-}
-
-// Ends the run: tokens that are still held are spent, and the device is given back.
-fn end<D: Device>(run: Run<D>) -> D
-    ensures { result ≡ run.store.device }
-{
-    let Run {
-        mut store,
-        first,
-        second,
-    } = run;
-    spend(&mut store, first);
-    spend(&mut store, second);
-    store.close()
-}
-
-// Makes the calls of a script, as far as there is room for answers, and says how many that were.
-fn work_through<D: Device>(run: Run<D>, calls: &[Call], answers: &mut [Answer]) -> (Run<D>, usize)
-    ensures { Worked (moment run.store.state (D.Device.disk run.store.device) run.first run.second) calls.now answers.old result.1 answers.new (moment result.0.store.state (D.Device.disk result.0.store.device) result.0.first result.0.second) }
-{
-    let mut run = run;
-    let count = calls.len().min(answers.len());
-    for i in 0..count {
-        let (next, answer) = step(run, calls[i]);
-        run = next;
-        answers[i] = answer;
-    }
-    (run, count)
 }
 
 // Makes a new store on the device and works the script on it, as far as there is room for answers. Answers how
@@ -142,6 +112,6 @@ pub fn work<D: Device>(
         first: None,
         second: None,
     };
-    let (run, count) = work_through(run, calls, answers);
-    (end(run), Ok(count))
+    let (run, count) = run.work_through(calls, answers);
+    (run.end(), Ok(count))
 }

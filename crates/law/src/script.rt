@@ -33,8 +33,9 @@ pub enum Call<'a> {
     Reopen,
 }
 
-#[derive(Clone, Copy)]
-pub enum Answer {
+// What a call is told as where the store doesn't refuse it.
+#[derive(Clone, Copy, PartialEq, Eq, Debug)]
+pub enum Told {
     // No call was made: no token is held in that place, or one is there already.
     Idle,
     Done,
@@ -48,5 +49,7 @@ pub enum Answer {
     Flushed(usize),
     // The number found, and how many strays.
     Opened(u64, usize),
-    No(StoreFault),
 }
+
+// What a call of a script answers.
+pub type Answer = Result<Told, StoreFault>;

@@ -2,11 +2,11 @@
 use Rattle.law.specs.declared.script.Call.TheVariants.{With, Read, Flush}
 use Rattle.law.specs.Events.{moment}
 use Rattle.law.proofs.Tracing.{stepped_as, stepped_read, stepped_flush}
-use Rattle.law.proofs.run.step.Goals as goal
+use Rattle.law.proofs.run.Run.step.Goals as goal
 
 pub returns-in-With : goal.returns-in-With
 returns-in-With g c =
-    let run = c.args.run in
+    let run = c.args.self in
     let r = c.with_token.result in
     let after = r.0 in
     stepped_as c.args.call (With c.in-With.slot c.in-With.deed)
@@ -16,14 +16,14 @@ returns-in-With g c =
 
 pub returns-in-Read : goal.returns-in-Read
 returns-in-Read g c =
-    let run = c.args.run in
+    let run = c.args.self in
     let m = moment run.store.state (g.D.Device.disk run.store.device) run.first run.second in
     stepped_as c.args.call (Read c.in-Read.start c.in-Read.size) m m c.read-answer.result c.in-Read.is
     (stepped_read c.in-Read.start c.in-Read.size m c.read-answer.result c.read-answer.ensures)
 
 pub returns-in-Flush : goal.returns-in-Flush
 returns-in-Flush g c =
-    let run = c.args.run in
+    let run = c.args.self in
     let d = g.D.Device.disk run.store.device in
     let s' = c.flush-answer.new.store.state in
     let e = g.D.Device.disk c.flush-answer.new.store.device in

@@ -1,7 +1,7 @@
 -- The events so far.
 use Rattle.law.specs.Events.{moment}
 use Rattle.law.proofs.Working.{SoFar}
-use Rattle.law.proofs.run.work_through.Given as goal
+use Rattle.law.proofs.run.Run.work_through.Given as goal
 
 abbrev pub invariant-loop-i : goal.invariant-loop-i
 invariant-loop-i g l =

@@ -5,11 +5,11 @@ use Rattle.law.specs.declared.script.Slot.TheVariants.{First, Second}
 use Rattle.law.specs.declared.script.Call.TheVariants.{With}
 use Rattle.law.specs.Events.{moment}
 use Rattle.law.proofs.Tracing.{stepped_as, stepped_first, stepped_second}
-use Rattle.law.proofs.run.with_token.Goals as goal
+use Rattle.law.proofs.run.Run.with_token.Goals as goal
 
 pub returns-in-First : goal.returns-in-First
 returns-in-First g c =
-    let run = c.args.run in
+    let run = c.args.self in
     let deed = c.args.deed in
     let d = g.D.Device.disk run.store.device in
     let s' = c.act-first.new.store.state in
@@ -21,7 +21,7 @@ returns-in-First g c =
 
 pub returns-in-Second : goal.returns-in-Second
 returns-in-Second g c =
-    let run = c.args.run in
+    let run = c.args.self in
     let deed = c.args.deed in
     let d = g.D.Device.disk run.store.device in
     let s' = c.act-second.new.store.state in
