@@ -1,5 +1,5 @@
 -- What the layers above may know of a log's sectors, without opening a definition.
-use Rattle.std.proofs.Common.{◌≡◌, ℕ, ◌+◌, ◌-◌, ◌%◌, ◌^◌, ◌<◌, ◌≤◌, true, false, ◌⊎◌, List, length, get_or, take, drop, replicate, Some, None, Option, sym, refl, ap, ◌∙◌, subst, inl, inr, ⊎_elim, arith}
+use Rattle.std.proofs.Common.{◌≡◌, ℕ, ◌+◌, ◌-◌, ◌%◌, ◌^◌, ◌<◌, ◌≤◌, true, false, ◌⊎◌, List, length, get_or, take, drop, replicate, Some, None, Option, Ok, sym, refl, ap, ◌∙◌, subst, inl, inr, ⊎_elim, arith}
 use Rattle.std.proofs.lemmas.List.{take_at, length-take-le, length-drop}
 use Rattle.std.proofs.lemmas.Bool.{cases_Bool, both_ways, cond-true, cond-false}
 use Rattle.record.specs.declared.Record.{Record}
@@ -160,7 +160,7 @@ pub found_zeros : (places place : ℕ) → found places place (replicate 128 0) 
 found_zeros places place = found_bad places place (replicate 128 0) (zeros_bad places place)
 
 -- A record that was written is found where it may stand.
-pub written_found : (places place : ℕ) (e : Entry) (before after : List ℕ) → Written e before true after → Placed places place e.serial e.low e.ordinal → found places place after ≡ e
+pub written_found : (places place : ℕ) (e : Entry) (before after : List ℕ) → Written e before (Ok tt) after → Placed places place e.serial e.low e.ordinal → found places place after ≡ e
 written_found places place e before after (w, is) placed =
     ap (λ (b : List ℕ). found places place b) is ∙ found_laid_out places place e (record { placed = placed; fits = w.fits })
 

@@ -1,5 +1,5 @@
 -- Lemmas on numbers in bytes and on rules, and the laws for the layers above.
-mod Numbers
+pub mod Numbers
 mod Rules
 mod Again
 mod Bytes
