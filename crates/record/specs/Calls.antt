@@ -29,4 +29,4 @@ Refused e buffer Rule = (length buffer ≡ 128) × (Fits e.kind e.page e.offset 
 -- The record was laid out in the buffer, or refused with the buffer as it was.
 abbrev pub Written : Entry → List ℕ → Result Unit RecordFault → List ℕ → Type 0
 Written e before (Ok _) after = Writable e before × (after ≡ laid_out e)
-Written e before (Err f) after = (Writable e before → ⊥) × (after ≡ before) × Refused e before f
+Written e before (Err f) after = Refused e before f × (after ≡ before)
