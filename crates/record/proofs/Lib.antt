@@ -2,7 +2,6 @@
 pub mod Numbers
 mod Rules
 mod Again
-mod Bytes
 mod Prefix
 mod Finding
 pub mod Laws
