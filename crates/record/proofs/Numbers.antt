@@ -1,8 +1,8 @@
 -- Numbers in bytes, the lowest byte first.
-use Rattle.std.proofs.Common.{◌≡◌, ℕ, zero, suc, ◌+◌, ◌*◌, ◌/◌, ◌^◌, ◌<◌, List, [], ◌∷◌, get_or, take, drop, ap, ◌∙◌, subst, pow-suc, mul_assoc, arith, rules}
+use Rattle.std.proofs.Common.{◌≡◌, ℕ, zero, suc, ◌+◌, ◌*◌, ◌/◌, ◌^◌, ◌<◌, List, [], ◌∷◌, get_or, take, drop, ap, pow-suc, mul_assoc, arith, rules}
 use Rattle.std.proofs.lemmas.Nat.{div_below}
 use Rattle.std.proofs.lemmas.List.{take-take}
-use Rattle.std.specs.Int.{w16, w64, to_le_bytes, from_le_bytes, byte_worth, sum_through}
+use Rattle.std.specs.Int.{w16, w64, to_le_bytes, byte_worth, sum_through}
 use Rattle.record.specs.Fields.{value, digits, field}
 
 -- the code's bytes of a number, and its number in bytes, are those of the format
@@ -24,17 +24,12 @@ sum_value : (n : ℕ) (bs : List ℕ) → sum_through (λ i. byte_worth i (get_o
 sum_value zero bs = grind (arith, value_more 0 bs)
 sum_value (suc n) bs = grind (arith, value_more (suc n) bs, sum_value n bs)
 
-pub number_2 : (f n : ℕ) (sector bs : List ℕ) → bs ≡ take 2 (drop f sector) → n ≡ from_le_bytes w16 bs → n ≡ field f 2 sector
-number_2 f n sector bs part is = is ∙ sum_value 1 bs ∙ ap (λ (xs : List ℕ). value (take 2 xs)) part ∙ ap value (take-take 2 2 (drop f sector) (omega arith))
-
-pub number_8 : (f n : ℕ) (sector bs : List ℕ) → bs ≡ take 8 (drop f sector) → n ≡ from_le_bytes w64 bs → n ≡ field f 8 sector
-number_8 f n sector bs part is = is ∙ sum_value 7 bs ∙ ap (λ (xs : List ℕ). value (take 8 xs)) part ∙ ap value (take-take 8 8 (drop f sector) (omega arith))
+pub number_in : (k f n : ℕ) (sector bs : List ℕ) → bs ≡ take (suc k) (drop f sector) → n ≡ sum_through (λ i. byte_worth i (get_or bs i 0)) k → n ≡ field f (suc k) sector
+number_in k f n sector bs part is = rw (is, sum_value k bs, part) (ap value (take-take (suc k) (suc k) (drop f sector) (omega arith)))
 
 -- a number that fits its bytes is written in them
 pub value_digits : (n x : ℕ) → x < 256 ^ n → value (digits n x) ≡ x
 unfolding digits
 value_digits zero x fits = omega arith
 value_digits (suc n) x fits =
-    let smaller : x < 256 ^ n * 256 = subst (λ (k : ℕ). x < k) (pow-suc 256 n) fits in
-    let rest : value (digits n (x / 256)) ≡ x / 256 = value_digits n (x / 256) (div_below x 256 (256 ^ n) (omega arith) smaller) in
-    omega arith
+    omega (arith, value_digits n (x / 256) (div_below x 256 (256 ^ n) (omega arith) (rw (pow-suc 256 n) at fits)))

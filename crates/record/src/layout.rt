@@ -1,5 +1,5 @@
 // Laying a record out in the bytes of a sector, from the front to the end.
-ghost use Rattle.std.specs.Prelude.{◌≡◌, ◌+◌, ◌-◌, ◌<◌, ◌≤◌, [], ◌++◌, length, take, replicate};
+ghost use Rattle.std.specs.Prelude.{◌≡◌, ◌+◌, ◌-◌, ◌≤◌, [], ◌++◌, length, take, replicate};
 ghost use Rattle.record.specs.Entry.{laid_out, label as label_bytes};
 ghost use Rattle.record.specs.Fields.{digits};
 ghost use Rattle.record.specs.Label.{spelled};
