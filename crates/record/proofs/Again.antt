@@ -1,35 +1,11 @@
 -- A record laid out, read field by field.
-use Rattle.std.proofs.Common.{◌≡◌, ℕ, ◌-◌, ◌^◌, ◌<◌, ◌≤◌, ◌++◌, length, get_or, drop, replicate, refl, arith}
+use Rattle.std.proofs.Common.{◌≡◌, ℕ, ◌-◌, ◌≤◌, ◌++◌, length, get_or, drop, replicate, refl, arith}
 use Rattle.std.proofs.lemmas.List.{length-append, length-replicate}
 use Rattle.record.specs.Fields.{digits, field}
 use Rattle.record.specs.Entry.{Entry, laid_out}
 use Rattle.record.specs.Good.{Sound}
 use Rattle.record.proofs.Numbers.{value_digits}
 use Rattle.record.proofs.Rules.{fits_size, fits_page}
-
-serial_back : (e : Entry) → e.serial < 2 ^ 64 → field 0 8 (laid_out e) ≡ e.serial
-unfolding laid_out digits
-serial_back e fits = value_digits 8 e.serial fits
-
-low_back : (e : Entry) → e.low < 2 ^ 64 → field 8 8 (laid_out e) ≡ e.low
-unfolding laid_out digits
-low_back e fits = value_digits 8 e.low fits
-
-ordinal_back : (e : Entry) → e.ordinal < 2 ^ 64 → field 16 8 (laid_out e) ≡ e.ordinal
-unfolding laid_out digits
-ordinal_back e fits = value_digits 8 e.ordinal fits
-
-page_back : (e : Entry) → e.page < 2 ^ 16 → field 24 2 (laid_out e) ≡ e.page
-unfolding laid_out digits
-page_back e fits = value_digits 2 e.page fits
-
-offset_back : (e : Entry) → e.offset < 2 ^ 16 → field 26 2 (laid_out e) ≡ e.offset
-unfolding laid_out digits
-offset_back e fits = value_digits 2 e.offset fits
-
-size_back : (e : Entry) → length e.bytes < 2 ^ 16 → field 28 2 (laid_out e) ≡ length e.bytes
-unfolding laid_out digits
-size_back e fits = value_digits 2 (length e.bytes) fits
 
 pub kind_back : (e : Entry) → get_or (laid_out e) 30 0 ≡ e.kind
 unfolding laid_out digits
@@ -60,15 +36,16 @@ pub record Same (e : Entry) : Type 0 where
   pub size : field 28 2 (laid_out e) ≡ length e.bytes
 
 pub again : (places place : ℕ) (e : Entry) → Sound places place e → Same e
+unfolding laid_out digits
 again places place e sound =
     let h = sound.placed in
     let n = fits_size e.kind e.page e.offset (length e.bytes) sound.fits in
     let p = fits_page e.kind e.page e.offset (length e.bytes) sound.fits in
     record {
-      serial = serial_back e (omega arith);
-      low = low_back e (omega arith);
-      ordinal = ordinal_back e (omega arith);
-      page = page_back e (omega arith);
-      offset = offset_back e (omega arith);
-      size = size_back e (omega arith);
+      serial = value_digits 8 e.serial (omega arith);
+      low = value_digits 8 e.low (omega arith);
+      ordinal = value_digits 8 e.ordinal (omega arith);
+      page = value_digits 2 e.page (omega arith);
+      offset = value_digits 2 e.offset (omega arith);
+      size = value_digits 2 (length e.bytes) (omega arith);
     }

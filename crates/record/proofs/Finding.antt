@@ -1,22 +1,12 @@
 -- The test of a good sector agrees with its rules.
-use Rattle.std.proofs.Common.{◌≡◌, ℕ, true, List, length, get_or, arith}
+use Rattle.std.proofs.Common.{◌≡◌, ℕ, true, List, arith}
 use Rattle.std.proofs.lemmas.Bool.Decides.{nat_tests}
-use Rattle.std.proofs.lemmas.Bool.{and_from, eq-eqb}
 use Rattle.record.specs.Good.{Placed, Fits, Good}
 use Rattle.record.specs.Found.{is_placed, does_fit, is_good}
 
 pub placed_yes : (n q s l o : ℕ) → is_placed n q s l o ≡ true → Placed n q s l o
 unfolding is_placed
-placed_yes n q s l o h =
-    record {
-      serial_from = grind (arith, nat_tests);
-      serial_to = grind (arith, nat_tests);
-      here = grind (arith, nat_tests);
-      low_from = grind (arith, nat_tests);
-      low_to = grind (arith, nat_tests);
-      near = grind (arith, nat_tests);
-      ordinal_below = grind (arith, nat_tests);
-    }
+placed_yes n q s l o h = grind (arith, nat_tests)
 
 pub yes_placed : (n q s l o : ℕ) → Placed n q s l o → is_placed n q s l o ≡ true
 unfolding is_placed
@@ -24,13 +14,7 @@ yes_placed n q s l o h = grind (arith, nat_tests)
 
 pub fits_yes : (k p o n : ℕ) → does_fit k p o n ≡ true → Fits k p o n
 unfolding does_fit
-fits_yes k p o n h =
-    record {
-      known = (grind (arith, nat_tests), grind (arith, nat_tests));
-      piece = λ a. (grind (arith, nat_tests), grind (arith, nat_tests), grind (arith, nat_tests));
-      whole = λ a. grind (arith, nat_tests);
-      mark = λ a. (grind (arith, nat_tests), grind (arith, nat_tests), grind (arith, nat_tests));
-    }
+fits_yes k p o n h = grind (arith, nat_tests)
 
 pub yes_fits : (k p o n : ℕ) → Fits k p o n → does_fit k p o n ≡ true
 unfolding does_fit
@@ -48,9 +32,4 @@ good_yes n q b h =
 
 pub yes_good : (n q : ℕ) (b : List ℕ) → Good n q b → is_good n q b ≡ true
 unfolding is_good
-yes_good n q b g =
-    and_from _ _
-    (and_from _ _
-    (and_from _ _ (eq-eqb (length b) 128 g.long) (eq-eqb (get_or b 31 0) 0 g.blank))
-    (yes_placed n q _ _ _ g.placed))
-    (yes_fits _ _ _ _ g.fits)
+yes_good n q b g = grind (arith, nat_tests, yes_placed, yes_fits)

@@ -1,46 +1,27 @@
 -- What the layers above may know of a log's sectors, without opening a definition.
-use Rattle.std.proofs.Common.{◌≡◌, ℕ, ◌+◌, ◌-◌, ◌%◌, ◌^◌, ◌<◌, ◌≤◌, true, false, ◌⊎◌, List, length, get_or, take, drop, replicate, Some, None, Option, sym, refl, ap, ◌∙◌, subst, inl, inr, ⊎_elim, arith}
+use Rattle.std.proofs.Common.{◌≡◌, ℕ, ◌+◌, ◌-◌, ◌≤◌, ◌⊎◌, List, length, take, drop, replicate, Some, None, Option, Ok, sym, refl, ap, ◌∙◌, inl, inr, ⊎_elim, arith}
 use Rattle.std.proofs.lemmas.List.{take_at, length-take-le, length-drop}
-use Rattle.std.proofs.lemmas.Bool.{cases_Bool, both_ways, cond-true, cond-false}
+use Rattle.std.proofs.lemmas.Bool.{cases_Bool, both_ways}
 use Rattle.record.specs.declared.Record.{Record}
-use Rattle.record.specs.declared.Record.TheVariants.{Part, Page, Mark}
 use Rattle.record.specs.Fields.{field}
-use Rattle.record.specs.Entry.{Entry, entry, laid_out, reads_as}
+use Rattle.record.specs.Entry.{Entry, laid_out, reads_as}
 use Rattle.record.specs.Good.{Placed, Good, Sound}
 use Rattle.record.specs.Calls.{Answered, Told, Written}
 use Rattle.record.specs.Found.{bad, found, seen, is_good}
-use Rattle.record.proofs.Rules.{fits_size, placed_same, fits_same, same_entry}
-use Rattle.record.proofs.Bytes.{laid_out_bytes}
+use Rattle.record.proofs.Rules.{fits_size, same_entry}
 use Rattle.record.proofs.Finding.{good_yes, yes_good}
 use Rattle.record.proofs.Prefix.{same_part, same_byte, same_field}
 use Rattle.record.proofs.Again.{again, long, kind_back, blank_back, rest_back}
-
--- Kinds: a bad entry has kind 0, a record 1 to 4.
-pub bad_kind : bad.kind ≡ 0
-bad_kind = refl
-
-pub entry_kind : (r : Record) → (1 ≤ (entry r).kind) × ((entry r).kind ≤ 4)
-entry_kind (Part head page offset true bytes) = (omega arith, omega arith)
-entry_kind (Part head page offset false bytes) = (omega arith, omega arith)
-entry_kind (Page head page bytes) = (omega arith, omega arith)
-entry_kind (Mark head) = (omega arith, omega arith)
-
--- A record's sector has 128 bytes.
-pub laid_out_length : (places place : ℕ) (e : Entry) → Sound places place e → length (laid_out e) ≡ 128
-laid_out_length places place e sound = long e (fits_size e.kind e.page e.offset (length e.bytes) sound.fits)
-
-pub laid_out_byte : (places place : ℕ) (e : Entry) → Sound places place e → ((i : ℕ) → get_or e.bytes i 0 < 256) → (i : ℕ) → get_or (laid_out e) i 0 < 256
-laid_out_byte places place e sound bytes = let kind = sound.fits.known in laid_out_bytes e (omega arith) bytes
 
 -- A record that may stand at a place is good there once it is laid out,
 pub laid_out_good : (places place : ℕ) (e : Entry) → Sound places place e → Good places place (laid_out e)
 laid_out_good places place e sound =
     let same = again places place e sound in
     record {
-      long = laid_out_length places place e sound;
+      long = long e (fits_size e.kind e.page e.offset (length e.bytes) sound.fits);
       blank = blank_back e;
-      placed = placed_same places place e.serial e.low e.ordinal _ _ _ same.serial same.low same.ordinal sound.placed;
-      fits = fits_same e.kind e.page e.offset (length e.bytes) _ _ _ _ (kind_back e) same.page same.offset same.size sound.fits;
+      placed = rw (same.serial, same.low, same.ordinal) sound.placed;
+      fits = rw (kind_back e, same.page, same.offset, same.size) sound.fits;
     }
 
 -- and is read as itself.
@@ -49,14 +30,12 @@ unfolding reads_as
 laid_out_reads places place e sound =
     let same = again places place e sound in
     let bytes : take (field 28 2 (laid_out e)) (drop 32 (laid_out e)) ≡ e.bytes =
-    ap (λ (n : ℕ). take n (drop 32 (laid_out e))) same.size
-    ∙ ap (λ (ys : List ℕ). take (length e.bytes) ys) (rest_back e)
-    ∙ take_at e.bytes (replicate (96 - length e.bytes) 0) (length e.bytes) refl in
+    rw (same.size, rest_back e) (take_at e.bytes (replicate (96 - length e.bytes) 0) (length e.bytes) refl) in
     same_entry (reads_as (laid_out e)) e (kind_back e) same.serial same.low same.ordinal same.page same.offset bytes
 
 -- Zeros are nowhere good.
 pub zeros_bad : (places place : ℕ) → Good places place (replicate 128 0) → ⊥
-zeros_bad places place g = let from = g.placed.serial_from in omega arith
+zeros_bad places place g = omega (arith, g.placed.serial_from)
 
 -- What a good sector says may stand at its place.
 pub good_sound : (places place : ℕ) (b : List ℕ) → Good places place b → Sound places place (reads_as b)
@@ -65,30 +44,14 @@ good_sound places place b g =
     let small = fits_size _ _ _ _ g.fits in
     let whole = g.long in
     let rest : length (drop 32 b) ≡ 96 = simp length-drop (omega arith) in
-    let size : length (take (field 28 2 b) (drop 32 b)) ≡ field 28 2 b = length-take-le (field 28 2 b) (drop 32 b) (omega arith) in
     record {
       placed = g.placed;
-      fits = fits_same _ _ _ _ _ _ _ _ refl refl refl size g.fits;
+      fits = rw (length-take-le (field 28 2 b) (drop 32 b) (omega arith)) g.fits;
     }
 
--- Its numbers, one by one.
+-- Its kind is one.
 pub good_kind : (places place : ℕ) (b : List ℕ) → Good places place b → (1 ≤ (reads_as b).kind) × ((reads_as b).kind ≤ 4)
 good_kind places place b g = (good_sound places place b g).fits.known
-
-pub good_serial : (places place : ℕ) (b : List ℕ) → Good places place b → (1 ≤ (reads_as b).serial) × ((reads_as b).serial < 2 ^ 63)
-good_serial places place b g = let h = (good_sound places place b g).placed in (h.serial_from, h.serial_to)
-
-pub good_place : (places place : ℕ) (b : List ℕ) → Good places place b → (reads_as b).serial % places ≡ place
-good_place places place b g = (good_sound places place b g).placed.here
-
-pub good_low : (places place : ℕ) (b : List ℕ) → Good places place b → (1 ≤ (reads_as b).low) × ((reads_as b).low ≤ (reads_as b).serial)
-good_low places place b g = let h = (good_sound places place b g).placed in (h.low_from, h.low_to)
-
-pub good_near : (places place : ℕ) (b : List ℕ) → Good places place b → (reads_as b).serial - (reads_as b).low < places
-good_near places place b g = (good_sound places place b g).placed.near
-
-pub good_ordinal : (places place : ℕ) (b : List ℕ) → Good places place b → (reads_as b).ordinal < (reads_as b).serial
-good_ordinal places place b g = (good_sound places place b g).placed.ordinal_below
 
 -- Bytes past a record's length do not matter: a sector with the same bytes up to there is good too,
 pub rest_good : (places place : ℕ) (a b : List ℕ) → Good places place a → length b ≡ 128 → take (32 + field 28 2 a) b ≡ take (32 + field 28 2 a) a → Good places place b
@@ -97,8 +60,8 @@ rest_good places place a b g whole same =
     record {
       long = whole;
       blank = same_byte 31 k a b (omega arith) same ∙ g.blank;
-      placed = placed_same places place _ _ _ _ _ _ (same_field 0 8 k a b (omega arith) same) (same_field 8 8 k a b (omega arith) same) (same_field 16 8 k a b (omega arith) same) g.placed;
-      fits = fits_same _ _ _ _ _ _ _ _ (same_byte 30 k a b (omega arith) same) (same_field 24 2 k a b (omega arith) same) (same_field 26 2 k a b (omega arith) same) (same_field 28 2 k a b (omega arith) same) g.fits;
+      placed = rw (same_field 0 8 k a b (omega arith) same, same_field 8 8 k a b (omega arith) same, same_field 16 8 k a b (omega arith) same) g.placed;
+      fits = rw (same_byte 30 k a b (omega arith) same, same_field 24 2 k a b (omega arith) same, same_field 26 2 k a b (omega arith) same, same_field 28 2 k a b (omega arith) same) g.fits;
     }
 
 -- and holds the same record.
@@ -113,19 +76,19 @@ rest_reads a b same =
     (same_field 16 8 k a b (omega arith) same)
     (same_field 24 2 k a b (omega arith) same)
     (same_field 26 2 k a b (omega arith) same)
-    (ap (λ (n : ℕ). take n (drop 32 b)) (same_field 28 2 k a b (omega arith) same) ∙ same_part 32 (field 28 2 a) k a b (omega arith) same)
+    (rw (same_field 28 2 k a b (omega arith) same) (same_part 32 (field 28 2 a) k a b (omega arith) same))
 
 -- What is found at a place: what a good sector says, and bad else.
 pub found_good : (places place : ℕ) (b : List ℕ) → Good places place b → found places place b ≡ reads_as b
 unfolding found
-found_good places place b g = cond-true (is_good places place b) (reads_as b) bad (yes_good places place b g)
+found_good places place b g = rw (yes_good places place b g)
 
 pub found_bad : (places place : ℕ) (b : List ℕ) → (Good places place b → ⊥) → found places place b ≡ bad
 unfolding found
 found_bad places place b none =
     ⊎_elim
     (λ yes-it. absurd (none (good_yes places place b yes-it)))
-    (λ not-it. cond-false (is_good places place b) (reads_as b) bad not-it)
+    (λ not-it. rw not-it)
     (cases_Bool (is_good places place b))
 
 -- A sector is good or not,
@@ -148,7 +111,7 @@ kind_good places place b h =
 pub found_cases : (places place : ℕ) (b : List ℕ) → (found places place b ≡ bad) ⊎ Sound places place (found places place b)
 found_cases places place b =
     ⊎_elim
-    (λ g. inr (subst (λ (e : Entry). Sound places place e) (sym (found_good places place b g)) (good_sound places place b g)))
+    (λ g. inr (rw (found_good places place b g) (good_sound places place b g)))
     (λ none. inl (found_bad places place b none))
     (good_or_not places place b)
 
@@ -160,9 +123,9 @@ pub found_zeros : (places place : ℕ) → found places place (replicate 128 0) 
 found_zeros places place = found_bad places place (replicate 128 0) (zeros_bad places place)
 
 -- A record that was written is found where it may stand.
-pub written_found : (places place : ℕ) (e : Entry) (before after : List ℕ) → Written e before true after → Placed places place e.serial e.low e.ordinal → found places place after ≡ e
+pub written_found : (places place : ℕ) (e : Entry) (before after : List ℕ) → Written e before (Ok tt) after → Placed places place e.serial e.low e.ordinal → found places place after ≡ e
 written_found places place e before after (w, is) placed =
-    ap (λ (b : List ℕ). found places place b) is ∙ found_laid_out places place e (record { placed = placed; fits = w.fits })
+    rw is (found_laid_out places place e (record { placed = placed; fits = w.fits }))
 
 -- A reading answers what is found.
 pub read_found : (places place : ℕ) (b : List ℕ) (r : Option Record) → Answered places place b r → Told b r → seen r ≡ found places place b

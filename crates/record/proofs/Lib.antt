@@ -1,8 +1,7 @@
 -- Lemmas on numbers in bytes and on rules, and the laws for the layers above.
-mod Numbers
+pub mod Numbers
 mod Rules
 mod Again
-mod Bytes
 mod Prefix
 mod Finding
 pub mod Laws

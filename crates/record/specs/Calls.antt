@@ -1,6 +1,8 @@
 -- What reading and writing a sector answer.
-use Rattle.std.specs.Prelude.{◌≡◌, ℕ, Bool, true, false, List, length, Some, None, Option}
+use Rattle.std.specs.Prelude.{◌≡◌, ◌≢◌, ℕ, List, length, Some, None, Option, Ok, Err, Result}
 use Rattle.record.specs.declared.Record.{Record}
+use Rattle.record.specs.declared.RecordFault.{RecordFault}
+use Rattle.record.specs.declared.RecordFault.TheVariants.{Buffer, Rule}
 use Rattle.record.specs.Entry.{Entry, entry, laid_out, reads_as}
 use Rattle.record.specs.Good.{Fits, Good}
 
@@ -19,7 +21,12 @@ pub record Writable (e : Entry) (buffer : List ℕ) : Type 0 where
   pub fits : Fits e.kind e.page e.offset (length e.bytes)
   pub long : length buffer ≡ 128
 
+-- Why a record was refused.
+abbrev pub Refused : Entry → List ℕ → RecordFault → Type 0
+Refused e buffer Buffer = length buffer ≢ 128
+Refused e buffer Rule = (length buffer ≡ 128) × (Fits e.kind e.page e.offset (length e.bytes) → ⊥)
+
 -- The record was laid out in the buffer, or refused with the buffer as it was.
-abbrev pub Written : Entry → List ℕ → Bool → List ℕ → Type 0
-Written e before true after = Writable e before × (after ≡ laid_out e)
-Written e before false after = (Writable e before → ⊥) × (after ≡ before)
+abbrev pub Written : Entry → List ℕ → Result Unit RecordFault → List ℕ → Type 0
+Written e before (Ok _) after = Writable e before × (after ≡ laid_out e)
+Written e before (Err f) after = Refused e before f × (after ≡ before)

@@ -2,6 +2,7 @@
 pub mod Fields
 pub mod Entry
 pub mod Good
+pub mod Kind
 pub mod Calls
 pub mod Label
 pub mod Found

@@ -1,90 +1,149 @@
 // The numbers before a sector's data, and the rules that they keep in a good sector.
-ghost use Rattle.std.specs.Prelude.{◌≡◌, ◌+◌, ◌<◌, ◌≤◌, T, length};
+ghost use Rattle.std.specs.Prelude.{◌≡◌, ◌+◌, ◌<◌, ◌≤◌, ◌↔◌, IsTrue, take, drop};
 ghost use Rattle.record.specs.Good.{Placed, Fits};
-ghost use Rattle.record.specs.Label.{Says};
+ghost use Rattle.record.specs.Kind.{code_of, Decoded};
 
-use crate::Head;
-use crate::fields::{long, short};
+use crate::{DATA, Head, SECTOR};
 
-// The kinds: a part of a transaction with more parts to come, its last part, a whole page, a mark.
-pub const MORE: u8 = 1;
-
-pub const LAST: u8 = 2;
-
-pub const WHOLE: u8 = 3;
-
-pub const MARK: u8 = 4;
-
-// The number of bytes in a page, and all that a sector has room for.
-const PAGE: usize = 96;
+// The number of bytes in a page: all that a sector has room for.
+const PAGE: usize = SECTOR - DATA;
 
 const PAGES: u16 = 64;
 
 // Serials stay below this, so that one more never wraps.
 const SERIALS: u64 = 0x8000_0000_0000_0000;
 
-// Everything in a sector but the record's bytes.
-#[derive(Clone, Copy)]
-pub struct Label {
-    pub head: Head,
-    pub page: u16,
-    pub offset: u16,
-    pub length: usize,
-    pub kind: u8,
+// The kinds: a part of a transaction with more parts to come, its last part, a whole page, a mark.
+#[derive(Clone, Copy, PartialEq, Eq, Debug)]
+pub enum Kind {
+    More = 1,
+    Last = 2,
+    Whole = 3,
+    Mark = 4,
 }
 
-// The label of a sector.
-pub(crate) fn label_in(sector: &[u8]) -> Label
-    requires { length sector.now ≡ 128 }
-    ensures { Says sector.now result }
-{
-    let head = Head {
-        serial: long(&sector[0..8]),
-        low: long(&sector[8..16]),
-        ordinal: long(&sector[16..24]),
-    };
-    Label {
-        head,
-        page: short(&sector[24..26]),
-        offset: short(&sector[26..28]),
-        length: short(&sector[28..30]) as usize,
-        kind: sector[30],
+// A byte that stands for no kind.
+#[derive(Clone, Copy, PartialEq, Eq, Debug)]
+pub struct NoKind;
+
+impl From<Kind> for u8 {
+    ghost from_gives = { λ kind byte. byte ≡ code_of kind };
+
+    fn from(kind: Kind) -> u8 {
+        kind as u8
     }
 }
 
-// Whether a record with this head may stand at this place of a log of so many sectors.
-pub(crate) fn placed(head: Head, place: usize, places: usize) -> bool
-    ensures only { T result → Placed places place head.serial head.low head.ordinal }
-    ensures all { Placed places place head.serial head.low head.ordinal → T result }
-{
-    1 <= head.serial
-        && head.serial < SERIALS
-        && 1 <= head.low
-        && head.low <= head.serial
-        && head.serial - head.low < places as u64
-        && head.ordinal < head.serial
-        && head.serial % places as u64 == place as u64
+impl TryFrom<u8> for Kind {
+    type Error = NoKind;
+
+    ghost try_from_gives = { Decoded };
+
+    fn try_from(byte: u8) -> Result<Kind, NoKind> {
+        match byte {
+            1 => Ok(Kind::More),
+            2 => Ok(Kind::Last),
+            3 => Ok(Kind::Whole),
+            4 => Ok(Kind::Mark),
+            _ => Err(NoKind),
+        }
+    }
+}
+
+impl Kind {
+    // Whether page, offset and length keep the rule of the kind.
+    fn fits(self, page: u16, offset: u16, length: usize) -> bool
+        ensures { IsTrue result ↔ Fits (code_of self) page offset length }
+    {
+        match self {
+            Kind::More | Kind::Last => within(page, offset, length),
+            Kind::Whole => within(page, offset, length) && length == PAGE,
+            Kind::Mark => page == 0 && offset == 0 && length == 0,
+        }
+    }
 }
 
 // Whether page, offset and length are those of a piece of a page.
 fn within(page: u16, offset: u16, length: usize) -> bool
-    ensures only { T result → (page < 64) × (1 ≤ length) × (offset + length ≤ 96) }
-    ensures all { page < 64 → 1 ≤ length → offset + length ≤ 96 → T result }
+    ensures { IsTrue result ↔ ((page < 64) × (1 ≤ length) × (offset + length ≤ 96)) }
 {
     let offset = offset as usize;
     // The two tests on the offset, since a sum with a length that is not known yet could wrap.
     page < PAGES && 1 <= length && offset <= PAGE && length <= PAGE - offset
 }
 
-// Whether page, offset and length keep the rule of their kind.
-pub(crate) fn fits(kind: u8, page: u16, offset: u16, length: usize) -> bool
-    ensures only { T result → Fits kind page offset length }
-    ensures all { Fits kind page offset length → T result }
-{
-    match kind {
-        MORE | LAST => within(page, offset, length),
-        WHOLE => within(page, offset, length) && length == PAGE,
-        MARK => page == 0 && offset == 0 && length == 0,
-        _ => false,
+impl Head {
+    // Whether a record with this head may stand at this place of a log of so many sectors.
+    pub(crate) fn placed(self, place: usize, places: usize) -> bool
+        ensures { IsTrue result ↔ Placed places place self.serial self.low self.ordinal }
+    {
+        1 <= self.serial
+            && self.serial < SERIALS
+            && 1 <= self.low
+            && self.low <= self.serial
+            && self.serial - self.low < places as u64
+            && self.ordinal < self.serial
+            && self.serial % places as u64 == place as u64
     }
+}
+
+// Everything in a sector but the record's bytes, with the rule of its kind kept.
+#[derive(Clone, Copy, PartialEq, Eq, Debug)]
+pub struct Label {
+    pub head: Head,
+    pub kind: Kind,
+    pub page: u16,
+    pub offset: u16,
+    pub length: usize,
+    ghost fits: { Fits (code_of kind) page offset length },
+}
+
+impl Label {
+    ghost use Rattle.record.specs.Label.{Numbered, Labelled};
+
+    // The label of these numbers, if they keep the rule of their kind.
+    pub(crate) fn new(
+        head: Head,
+        kind: Kind,
+        page: u16,
+        offset: u16,
+        length: usize,
+    ) -> Option<Label>
+        ensures { Numbered head kind page offset length result }
+    {
+        if !kind.fits(page, offset, length) {
+            return None;
+        }
+        Some(Label {
+            head,
+            kind,
+            page,
+            offset,
+            length,
+        })
+    }
+
+    // The label in a sector, if its numbers keep the rule of a kind.
+    pub(crate) fn of(sector: &[u8; SECTOR]) -> Option<Label>
+        ensures { Labelled sector.now result }
+    {
+        let head = Head {
+            serial: u64::from_le_bytes(part(sector, 0)),
+            low: u64::from_le_bytes(part(sector, 8)),
+            ordinal: u64::from_le_bytes(part(sector, 16)),
+        };
+        let page = u16::from_le_bytes(part(sector, 24));
+        let offset = u16::from_le_bytes(part(sector, 26));
+        let length = u16::from_le_bytes(part(sector, 28));
+        let kind = Kind::try_from(sector[30]).ok()?;
+        Label::new(head, kind, page, offset, length as usize)
+    }
+}
+
+// The bytes of a sector from `at` on, as many as the number has that they are read as.
+fn part<const N: usize>(sector: &[u8; SECTOR], at: usize) -> [u8; N]
+    requires { at + N ≤ SECTOR }
+    ensures { result ≡ take N (drop at sector.now) }
+{
+    sector[at..at + N].try_into().unwrap()
 }

@@ -2,28 +2,27 @@
 
 #![tactic(auto)]
 
-ghost use Rattle.std.specs.Prelude.{◌≡◌, ◌+◌, ◌≤◌, length, take, drop};
-ghost use Rattle.record.specs.Entry.{entry, reads_as};
+ghost use Rattle.std.specs.Prelude.{◌≡◌, length};
+ghost use Rattle.record.specs.Entry.{entry};
 ghost use Rattle.record.specs.Calls.{Answered, Told, Written};
-ghost use Rattle.record.specs.Good.{Fits};
-ghost use Rattle.record.specs.Label.{Says, Judged, spelled};
+ghost use Rattle.record.specs.Label.{Judged, Labels, spelled};
 
-mod fields;
 mod label;
 mod layout;
 pub mod theorems;
 
-use label::{LAST, Label, MARK, MORE, WHOLE, fits, label_in, placed};
+use label::{Kind, Label};
 use layout::lay_out;
 
 // The number of bytes in a sector.
 pub const SECTOR: usize = 128;
 
-const NO_BYTES: &[u8] = &[];
+// Where a record's own bytes begin, after its label.
+const DATA: usize = 32;
 
 // What every record tells of its log: its own serial, the oldest serial needed when it was written,
 // and the number of the last transaction by then.
-#[derive(Clone, Copy)]
+#[derive(Clone, Copy, PartialEq, Eq, Debug)]
 pub struct Head {
     pub serial: u64,
     pub low: u64,
@@ -31,7 +30,7 @@ pub struct Head {
 }
 
 // A record, whose bytes stay in the sector that it was read from.
-#[derive(Clone, Copy)]
+#[derive(Clone, Copy, PartialEq, Eq, Debug)]
 pub enum Record<'a> {
     // A part of a transaction: bytes of one page, from this offset on.
     Part {
@@ -53,9 +52,17 @@ pub enum Record<'a> {
     },
 }
 
+// Why a record was not written.
+#[derive(Clone, Copy, PartialEq, Eq, Debug)]
+pub enum RecordFault {
+    // The buffer is no sector.
+    Buffer,
+    // The record breaks the rule of its kind.
+    Rule,
+}
+
 impl<'a> Record<'a> {
-    // A mark. Callers make one by this, since the checker does not follow a `Record::Mark { .. }` that is
-    // passed on where it is made: nothing in it is borrowed.
+    // A mark.
     pub fn mark(head: Head) -> Record<'a>
         ensures { result ≡ Record.Mark head }
     {
@@ -72,110 +79,90 @@ impl<'a> Record<'a> {
             Record::Part { head, .. } | Record::Page { head, .. } | Record::Mark { head } => head,
         }
     }
+
+    // The record's own bytes.
+    fn bytes(&self) -> &'a [u8]
+        ensures { result.now ≡ (entry self.now).bytes }
+    {
+        match *self {
+            Record::Part { bytes, .. } | Record::Page { bytes, .. } => bytes,
+            Record::Mark { .. } => &[],
+        }
+    }
+
+    // The record's label, if it keeps the rule of its kind.
+    fn label(&self) -> Option<Label>
+        ensures { Labels (entry self.now) result }
+    {
+        let (kind, page, offset) = match *self {
+            Record::Part {
+                page,
+                offset,
+                last,
+                ..
+            } => (if last { Kind::Last } else { Kind::More }, page, offset),
+            Record::Page { page, .. } => (Kind::Whole, page, 0),
+            Record::Mark { .. } => (Kind::Mark, 0, 0),
+        };
+        Label::new(self.head(), kind, page, offset, self.bytes().len())
+    }
+
+    // The record with this label and these bytes.
+    fn new(label: Label, bytes: &'a [u8]) -> Record<'a>
+        requires { length bytes.now ≡ label.length }
+        ensures { entry result ≡ spelled label bytes.now }
+    {
+        let Label {
+            head,
+            page,
+            offset,
+            ..
+        } = label;
+        match label.kind {
+            Kind::More | Kind::Last => Record::Part {
+                head,
+                page,
+                offset,
+                last: label.kind == Kind::Last,
+                bytes,
+            },
+            Kind::Whole => Record::Page { head, page, bytes },
+            Kind::Mark => Record::Mark { head },
+        }
+    }
 }
 
 // The record in a sector at this place of a log of so many sectors, or none where the sector is not
 // good there.
+#[tactic(auto, unfolding(crate::specs::Entry::reads_as))]
 pub fn read<'a>(sector: &'a [u8], place: usize, places: usize) -> Option<Record<'a>>
     ensures good { Answered places place sector.now result }
     ensures told { Told sector.now result }
 {
-    let label = good_label(sector, place, places)?;
-    Some(content(label, sector))
+    let label = good_label(sector.as_array()?, place, places)?;
+    // The bytes past the record's own mean nothing.
+    Some(Record::new(label, &sector[DATA..DATA + label.length]))
 }
 
-// Lays the record out in the sector, and says so. A record that breaks its kind's rule, or a buffer
-// that is no sector, is refused, and the buffer stays as it was.
-pub fn write(record: Record, sector: &mut [u8]) -> bool
+// Lays the record out in the sector. A buffer that is no sector is refused, and then a record that breaks
+// the rule of its kind; the buffer stays as it was.
+pub fn write(record: Record, sector: &mut [u8]) -> Result<(), RecordFault>
     ensures { Written (entry «record».entry) sector.old result sector.new }
 {
-    let (label, bytes) = parts(record);
-    if sector.len() != SECTOR || !fits(label.kind, label.page, label.offset, label.length) {
-        return false;
-    }
-    lay_out(sector, label, bytes);
-    true
+    let Some(sector) = sector.as_mut_array() else {
+        return Err(RecordFault::Buffer);
+    };
+    let label = record.label().ok_or(RecordFault::Rule)?;
+    lay_out(sector, label, record.bytes());
+    Ok(())
 }
 
 // The label of a good sector.
-fn good_label(sector: &[u8], place: usize, places: usize) -> Option<Label>
+fn good_label(sector: &[u8; SECTOR], place: usize, places: usize) -> Option<Label>
     ensures { Judged places place sector.now result }
 {
-    if sector.len() != SECTOR || sector[31] != 0 {
+    if sector[31] != 0 {
         return None;
     }
-    let label = label_in(sector);
-    if !placed(label.head, place, places) {
-        return None;
-    }
-    if !fits(label.kind, label.page, label.offset, label.length) {
-        return None;
-    }
-    Some(label)
-}
-
-// The record that a sector with this label holds.
-fn content<'a>(label: Label, sector: &'a [u8]) -> Record<'a>
-    requires { (length sector.now ≡ 128) × ((Says sector.now label) × (Fits label.kind label.page label.offset label.length)) }
-    ensures { entry result ≡ reads_as sector.now }
-{
-    named(label, bytes_in(sector, label.length))
-}
-
-// The bytes of a record that has so many; those after them mean nothing.
-fn bytes_in<'a>(sector: &'a [u8], size: usize) -> &'a [u8]
-    requires { 32 + size ≤ length sector.now }
-    ensures those { result.now ≡ take size (drop 32 sector.now) }
-    ensures long { length result.now ≡ size }
-{
-    &sector[32..32 + size]
-}
-
-// The record with this label and these bytes.
-fn named<'a>(label: Label, bytes: &'a [u8]) -> Record<'a>
-    requires { (Fits label.kind label.page label.offset label.length) × (length bytes.now ≡ label.length) }
-    ensures { entry result ≡ spelled label bytes.now }
-{
-    let Label {
-        head,
-        page,
-        offset,
-        ..
-    } = label;
-    match label.kind {
-        WHOLE => Record::Page { head, page, bytes },
-        MARK => Record::Mark { head },
-        kind => Record::Part {
-            head,
-            page,
-            offset,
-            last: kind == LAST,
-            bytes,
-        },
-    }
-}
-
-// The label and the bytes of a record.
-fn parts<'a>(record: Record<'a>) -> (Label, &'a [u8])
-    ensures { (spelled result.0 result.1.now ≡ entry «record».entry) × (result.0.length ≡ length result.1.now) }
-{
-    let (kind, head, page, offset, bytes) = match record {
-        Record::Part {
-            head,
-            page,
-            offset,
-            last,
-            bytes,
-        } => (if last { LAST } else { MORE }, head, page, offset, bytes),
-        Record::Page { head, page, bytes } => (WHOLE, head, page, 0, bytes),
-        Record::Mark { head } => (MARK, head, 0, 0, NO_BYTES),
-    };
-    let label = Label {
-        head,
-        page,
-        offset,
-        length: bytes.len(),
-        kind,
-    };
-    (label, bytes)
+    Label::of(sector).filter(|label| label.head.placed(place, places))
 }

@@ -1,8 +1,0 @@
--- The bytes, written out.
-use Rattle.std.proofs.Common.{rules}
-use Rattle.record.specs.Fields.{digits}
-use Rattle.record.proofs.fields.two.Goals as goal
-
-pub returns : goal.returns
-unfolding digits
-returns c = search rules
