@@ -2,11 +2,11 @@
 use Rattle.std.proofs.Common.{◌≡◌, ℕ, ◌<◌, Bool, true, false, List, [], ◌∷◌, ◌++◌, length, Ok, Err, sym, refl, ap, ◌∙◌, subst, inl, inr, ⊎_elim}
 use Rattle.device.specs.declared.fault.DeviceFault.TheVariants.{Power, Misaddressed, Unfit, Spoiled}
 use Rattle.device.specs.Disk.{Disk, Plate, Shown, spoiled, holds, Among, Stands}
-use Rattle.device.specs.Meaning.{Answer, Addressed, NothingNew, Lost, Wrote, Settled, Restarted, Read, Write, Barrier, Restart, told_after}
+use Rattle.device.specs.Meaning.{Answer, Addressed, NothingNew, Lost, Wrote, Settled, Restarted, Read, Write, Barrier, Restart, on_after, told_after}
 use Rattle.device.specs.Trace.{Act, wrote, settled, restarted, InTurn}
 use Rattle.device.proofs.Membership.{among_left, among_right}
 use Rattle.device.proofs.Changes.{Changed, Faded, done_one, done_two, cut_one, cut_two, faded_lost, faded_failed, not_astray, changed_wrote, changed_cut, changed_more, settled_old, cut_origin, nothing_new_same}
-use Rattle.mirror.specs.Sides.{Sides, sides, either, mirrored, joined, Writes, Settles, Restarts, Reads, Worked, stays}
+use Rattle.mirror.specs.Sides.{Sides, sides, either, mirrored, joined, Writes, Settles, Restarts, Reads, Worked}
 use Rattle.mirror.proofs.Merging.{both, stands_found, found_stands, nothing_new, quiet_both}
 
 -- this work took the sides l and r to l' and r'
@@ -81,7 +81,7 @@ shown_left x r bytes e = ap (λ v. either v r) e
 kept_both : (l r l' r' : Shown) → l' ≡ l → r' ≡ r → either l' r' ≡ either l r
 kept_both l r l' r' p q = ap (λ v. either v r') p ∙ ap (λ v. either l v) q
 
-write_means : (told : ℕ) (l r l' r' : Disk) (s : ℕ) (bytes : List ℕ) (a : Answer) → Addressed (mirrored (sides true told l r)) s (length bytes) → Together (Writes s bytes) l r l' r' a → Write (mirrored (sides true told l r)) s bytes a (mirrored (sides (stays a) (told_after told a) l' r'))
+write_means : (told : ℕ) (l r l' r' : Disk) (s : ℕ) (bytes : List ℕ) (a : Answer) → Addressed (mirrored (sides true told l r)) s (length bytes) → Together (Writes s bytes) l r l' r' a → Write (mirrored (sides true told l r)) s bytes a (mirrored (sides (on_after a) (told_after told a) l' r'))
 write_means told l r l' r' s bytes (Ok u) asked (right, left) =
     let two = done_two r r' (wrote s bytes) settled right in
     let v : Wrote l s bytes l' = done_one l l' (wrote s bytes) left in
@@ -137,7 +137,7 @@ lost_right : (on : Bool) (told : ℕ) (l r l' r' : Disk) (o : ℕ) → l' ≡ l 
 lost_right on told l r l' r' o same w =
     lost_mirror on told l r l' r' o (origin_right o l.plate.ends r.plate.ends w.origin) (ap (λ (v : Disk). v.plate) same) w.plate (nothing_new_same l l' same) w.old
 
-settle_means : (told : ℕ) (l r l' r' : Disk) (a : Answer) → Together Settles l r l' r' a → Barrier (mirrored (sides true told l r)) a (mirrored (sides (stays a) (told_after told a) l' r'))
+settle_means : (told : ℕ) (l r l' r' : Disk) (a : Answer) → Together Settles l r l' r' a → Barrier (mirrored (sides true told l r)) a (mirrored (sides (on_after a) (told_after told a) l' r'))
 settle_means told l r l' r' (Ok u) (right, left) =
     let v : Settled r r' = done_one r r' settled right in
     let w : Settled l l' = done_one l l' settled left in
@@ -166,7 +166,7 @@ chosen_both : (l r : Disk) (i : ℕ) (x y : Shown) → Stands l i x → Stands r
 chosen_both l r i spoiled y h k = found_stands l r i y (inr (h, k))
 chosen_both l r i (holds bytes) y h k = found_stands l r i (holds bytes) (inl (bytes, refl, h))
 
-pub restart_means : (l r l' r' : Disk) (a : Answer) → Together Restarts l r l' r' a → (on : Bool) (told : ℕ) → Restart (mirrored (sides on told l r)) a (mirrored (sides (stays a) (told_after told a) l' r'))
+pub restart_means : (l r l' r' : Disk) (a : Answer) → Together Restarts l r l' r' a → (on : Bool) (told : ℕ) → Restart (mirrored (sides on told l r)) a (mirrored (sides (on_after a) (told_after told a) l' r'))
 restart_means l r l' r' (Ok u) (right, left) on told =
     let v : Restarted r r' = done_one r r' restarted right in
     let w : Restarted l l' = done_one l l' restarted left in
@@ -192,7 +192,7 @@ spoiled_left : (l r y : Shown) → l ≡ spoiled → r ≡ y → either l r ≡ 
 spoiled_left l r y e h = ap (λ v. either v r) e ∙ h
 
 -- the right side answers for the mirror where the left is spoiled
-second_means : (told : ℕ) (l r l' r' : Disk) (s : ℕ) (before after : List ℕ) (a : Answer) → Addressed (mirrored (sides true told l r)) s (length before) → l' ≡ l → l.shows s ≡ spoiled → s < r.plate.sectors → Read r s before a r' after → Read (mirrored (sides true told l r)) s before a (mirrored (sides (stays a) (told_after told a) l' r')) after
+second_means : (told : ℕ) (l r l' r' : Disk) (s : ℕ) (before after : List ℕ) (a : Answer) → Addressed (mirrored (sides true told l r)) s (length before) → l' ≡ l → l.shows s ≡ spoiled → s < r.plate.sectors → Read r s before a r' after → Read (mirrored (sides true told l r)) s before a (mirrored (sides (on_after a) (told_after told a) l' r')) after
 second_means told l r l' r' s before after (Ok u) asked same gone there w =
     record {
       on = refl;
@@ -215,9 +215,9 @@ second_means told l r l' r' s before after (Err (Spoiled t o)) asked same gone t
       untouched = w.untouched;
     }
 
-read_means : (told : ℕ) (l r l' r' : Disk) (s : ℕ) (before after : List ℕ) (a : Answer) → Addressed (mirrored (sides true told l r)) s (length before) → s < r.plate.sectors → Together (Reads s before after) l r l' r' a → Read (mirrored (sides true told l r)) s before a (mirrored (sides (stays a) (told_after told a) l' r')) after
+read_means : (told : ℕ) (l r l' r' : Disk) (s : ℕ) (before after : List ℕ) (a : Answer) → Addressed (mirrored (sides true told l r)) s (length before) → s < r.plate.sectors → Together (Reads s before after) l r l' r' a → Read (mirrored (sides true told l r)) s before a (mirrored (sides (on_after a) (told_after told a) l' r')) after
 read_means told l r l' r' s before after a asked there (Ok u, (w, e, same)) =
-    subst (λ (b : Answer). Read (mirrored (sides true told l r)) s before b (mirrored (sides (stays b) (told_after told b) l' r')) after) (sym e)
+    subst (λ (b : Answer). Read (mirrored (sides true told l r)) s before b (mirrored (sides (on_after b) (told_after told b) l' r')) after) (sym e)
     (record {
       on = refl;
       asked = asked;
@@ -225,7 +225,7 @@ read_means told l r l' r' s before after a asked there (Ok u, (w, e, same)) =
       shown = shown_left (l.shows s) (r.shows s) after w.shown;
     })
 read_means told l r l' r' s before after a asked there (Err (Power o), ((w, untouched), e, same)) =
-    subst (λ (b : Answer). Read (mirrored (sides true told l r)) s before b (mirrored (sides (stays b) (told_after told b) l' r')) after) (sym e)
+    subst (λ (b : Answer). Read (mirrored (sides true told l r)) s before b (mirrored (sides (on_after b) (told_after told b) l' r')) after) (sym e)
     (inr (refl, lost_left true told l r l' r' o (faded_failed l l' o w) same), untouched)
 read_means told l r l' r' s before after a asked there (Err (Misaddressed t o), h) = absurd h
 read_means told l r l' r' s before after a asked there (Err Unfit, h) = absurd h
@@ -240,7 +240,7 @@ Plain (Err (Misaddressed _ _)) = ⊥
 Plain (Err Unfit) = ⊥
 Plain (Err (Spoiled _ _)) = Unit {0}
 
-worked : (work : Sides → Answer → Sides → Type 0) (on : Bool) (told : ℕ) (l r l' r' : Disk) (a : Answer) → on ≡ true → Plain a → work (sides on told l r) a (sides (stays a) (told_after told a) l' r') → Worked work (sides on told l r) a (sides (stays a) (told_after told a) l' r')
+worked : (work : Sides → Answer → Sides → Type 0) (on : Bool) (told : ℕ) (l r l' r' : Disk) (a : Answer) → on ≡ true → Plain a → work (sides on told l r) a (sides (on_after a) (told_after told a) l' r') → Worked work (sides on told l r) a (sides (on_after a) (told_after told a) l' r')
 worked work on told l r l' r' (Ok u) e p h = (e, refl, refl, h)
 worked work on told l r l' r' (Err (Power o)) e p h = inr (e, refl, refl, h)
 worked work on told l r l' r' (Err (Misaddressed t o)) e p h = absurd p
@@ -279,8 +279,8 @@ reads_at on on' told told' l r l' r' s before after a (Err (Spoiled t o), h) = (
 
 -- The three calls of a mirror that is on: the device meaning, and the work in its order.
 pub record Meant (meaning : Disk → Answer → Disk → Type 0) (work : Sides → Answer → Sides → Type 0) (l r l' r' : Disk) (a : Answer) : Type 0 where
-  pub means : (on : Bool) (told : ℕ) → on ≡ true → meaning (mirrored (sides on told l r)) a (mirrored (sides (stays a) (told_after told a) l' r'))
-  pub works : (on : Bool) (told : ℕ) → on ≡ true → Worked work (sides on told l r) a (sides (stays a) (told_after told a) l' r')
+  pub means : (on : Bool) (told : ℕ) → on ≡ true → meaning (mirrored (sides on told l r)) a (mirrored (sides (on_after a) (told_after told a) l' r'))
+  pub works : (on : Bool) (told : ℕ) → on ≡ true → Worked work (sides on told l r) a (sides (on_after a) (told_after told a) l' r')
 
 switched : (meaning : Disk → Answer → Disk → Type 0) (l r : Disk) (a : Answer) (e : Disk) (on : Bool) (told : ℕ) → on ≡ true → meaning (mirrored (sides true told l r)) a e → meaning (mirrored (sides on told l r)) a e
 switched meaning l r a e on told h m = subst (λ (b : Bool). meaning (mirrored (sides b told l r)) a e) (sym h) m
@@ -288,20 +288,20 @@ switched meaning l r a e on told h m = subst (λ (b : Bool). meaning (mirrored (
 pub write_works : (l r l' r' : Disk) (s : ℕ) (bytes : List ℕ) (a : Answer) → Addressed (both l r) s (length bytes) → Together (Writes s bytes) l r l' r' a → Meant (λ d b e. Write d s bytes b e) (Writes s bytes) l r l' r' a
 write_works l r l' r' s bytes a asked h =
     record {
-      means = λ on told e. switched (λ d b v. Write d s bytes b v) l r a (mirrored (sides (stays a) (told_after told a) l' r')) on told e (write_means told l r l' r' s bytes a (addressed_at true told l r s (length bytes) asked) h);
+      means = λ on told e. switched (λ d b v. Write d s bytes b v) l r a (mirrored (sides (on_after a) (told_after told a) l' r')) on told e (write_means told l r l' r' s bytes a (addressed_at true told l r s (length bytes) asked) h);
       works = λ on told e. worked (Writes s bytes) on told l r l' r' a e (plain_turn r l r' l' (wrote s bytes ∷ settled ∷ []) (wrote s bytes ∷ []) a h) h;
     }
 
 pub settle_works : (l r l' r' : Disk) (a : Answer) → Together Settles l r l' r' a → Meant Barrier Settles l r l' r' a
 settle_works l r l' r' a h =
     record {
-      means = λ on told e. switched Barrier l r a (mirrored (sides (stays a) (told_after told a) l' r')) on told e (settle_means told l r l' r' a h);
+      means = λ on told e. switched Barrier l r a (mirrored (sides (on_after a) (told_after told a) l' r')) on told e (settle_means told l r l' r' a h);
       works = λ on told e. worked Settles on told l r l' r' a e (plain_turn r l r' l' (settled ∷ []) (settled ∷ []) a h) h;
     }
 
 pub read_works : (l r l' r' : Disk) (s : ℕ) (before after : List ℕ) (a : Answer) → Addressed (both l r) s (length before) → s < r.plate.sectors → Together (Reads s before after) l r l' r' a → Meant (λ d b e. Read d s before b e after) (Reads s before after) l r l' r' a
 read_works l r l' r' s before after a asked there h =
     record {
-      means = λ on told e. switched (λ d b v. Read d s before b v after) l r a (mirrored (sides (stays a) (told_after told a) l' r')) on told e (read_means told l r l' r' s before after a (addressed_at true told l r s (length before) asked) there h);
-      works = λ on told e. worked (Reads s before after) on told l r l' r' a e (plain_asked l r l' r' s before after a there asked.fits h) (reads_at on (stays a) told (told_after told a) l r l' r' s before after a h);
+      means = λ on told e. switched (λ d b v. Read d s before b v after) l r a (mirrored (sides (on_after a) (told_after told a) l' r')) on told e (read_means told l r l' r' s before after a (addressed_at true told l r s (length before) asked) there h);
+      works = λ on told e. worked (Reads s before after) on told l r l' r' a e (plain_asked l r l' r' s before after a there asked.fits h) (reads_at on (on_after a) told (told_after told a) l r l' r' s before after a h);
     }

@@ -1,20 +1,10 @@
 // Work on the two sides of a mirror in its order, and what the mirror is then as one device.
 ghost use Rattle.std.specs.Prelude.{◌≡◌, ℕ, ◌<◌, Bool, true, [], ◌∷◌, length};
-ghost use Rattle.device.specs.Meaning.{Read, Write, Barrier, Restart, told_after};
+ghost use Rattle.device.specs.Meaning.{Read, Write, Barrier, Restart, on_after, told_after};
 ghost use Rattle.device.specs.Trace.{InTurn, wrote, settled, restarted};
-ghost use Rattle.mirror.specs.Sides.{sides, mirrored, Writes, Settles, Restarts, Reads, Worked, stays};
+ghost use Rattle.mirror.specs.Sides.{sides, mirrored, Writes, Settles, Restarts, Reads, Worked};
 
 use device::{Device, DeviceFault};
-
-// Whether the mirror is still on after this answer of its sides.
-pub(crate) fn powered(answer: &Result<(), DeviceFault>) -> bool
-    ensures { result ≡ stays answer.now }
-{
-    match answer {
-        Err(DeviceFault::Power(_)) => false,
-        _ => true,
-    }
-}
 
 // Writes a sector on the first device, settles it there, and only then writes it on the second.
 fn write_in_turn<A: Device, B: Device>(
@@ -75,8 +65,8 @@ pub(crate) fn write_both<L: Device, R: Device>(
     requires in_left { sector < (L.Device.disk left.old).plate.sectors }
     requires in_right { sector < (R.Device.disk right.old).plate.sectors }
     requires whole { length bytes.now ≡ 128 }
-    ensures meaning { (on : Bool) (told : ℕ) → on ≡ true → Write (mirrored (sides on told (L.Device.disk left.old) (R.Device.disk right.old))) sector bytes.now result (mirrored (sides (stays result) (told_after told result) (L.Device.disk left.new) (R.Device.disk right.new))) }
-    ensures order { (on : Bool) (told : ℕ) → on ≡ true → Worked (Writes sector bytes.now) (sides on told (L.Device.disk left.old) (R.Device.disk right.old)) result (sides (stays result) (told_after told result) (L.Device.disk left.new) (R.Device.disk right.new)) }
+    ensures meaning { (on : Bool) (told : ℕ) → on ≡ true → Write (mirrored (sides on told (L.Device.disk left.old) (R.Device.disk right.old))) sector bytes.now result (mirrored (sides (on_after result) (told_after told result) (L.Device.disk left.new) (R.Device.disk right.new))) }
+    ensures order { (on : Bool) (told : ℕ) → on ≡ true → Worked (Writes sector bytes.now) (sides on told (L.Device.disk left.old) (R.Device.disk right.old)) result (sides (on_after result) (told_after told result) (L.Device.disk left.new) (R.Device.disk right.new)) }
 {
     write_in_turn(right, left, sector, bytes)
 }
@@ -85,8 +75,8 @@ pub(crate) fn settle_both<L: Device, R: Device>(
     left: &mut L,
     right: &mut R,
 ) -> Result<(), DeviceFault>
-    ensures meaning { (on : Bool) (told : ℕ) → on ≡ true → Barrier (mirrored (sides on told (L.Device.disk left.old) (R.Device.disk right.old))) result (mirrored (sides (stays result) (told_after told result) (L.Device.disk left.new) (R.Device.disk right.new))) }
-    ensures order { (on : Bool) (told : ℕ) → on ≡ true → Worked Settles (sides on told (L.Device.disk left.old) (R.Device.disk right.old)) result (sides (stays result) (told_after told result) (L.Device.disk left.new) (R.Device.disk right.new)) }
+    ensures meaning { (on : Bool) (told : ℕ) → on ≡ true → Barrier (mirrored (sides on told (L.Device.disk left.old) (R.Device.disk right.old))) result (mirrored (sides (on_after result) (told_after told result) (L.Device.disk left.new) (R.Device.disk right.new))) }
+    ensures order { (on : Bool) (told : ℕ) → on ≡ true → Worked Settles (sides on told (L.Device.disk left.old) (R.Device.disk right.old)) result (sides (on_after result) (told_after told result) (L.Device.disk left.new) (R.Device.disk right.new)) }
 {
     settle_in_turn(right, left)
 }
@@ -95,7 +85,7 @@ pub(crate) fn restart_both<L: Device, R: Device>(
     left: &mut L,
     right: &mut R,
 ) -> Result<(), DeviceFault>
-    ensures meaning { (on : Bool) (told : ℕ) → Restart (mirrored (sides on told (L.Device.disk left.old) (R.Device.disk right.old))) result (mirrored (sides (stays result) (told_after told result) (L.Device.disk left.new) (R.Device.disk right.new))) }
+    ensures meaning { (on : Bool) (told : ℕ) → Restart (mirrored (sides on told (L.Device.disk left.old) (R.Device.disk right.old))) result (mirrored (sides (on_after result) (told_after told result) (L.Device.disk left.new) (R.Device.disk right.new))) }
     ensures order { Restarts (sides true 0 (L.Device.disk left.old) (R.Device.disk right.old)) result (sides true 0 (L.Device.disk left.new) (R.Device.disk right.new)) }
 {
     restart_in_turn(right, left)
@@ -110,8 +100,8 @@ pub(crate) fn read_either<L: Device, R: Device>(
     requires in_left { sector < (L.Device.disk left.old).plate.sectors }
     requires in_right { sector < (R.Device.disk right.old).plate.sectors }
     requires whole { length buffer.old ≡ 128 }
-    ensures meaning { (on : Bool) (told : ℕ) → on ≡ true → Read (mirrored (sides on told (L.Device.disk left.old) (R.Device.disk right.old))) sector buffer.old result (mirrored (sides (stays result) (told_after told result) (L.Device.disk left.new) (R.Device.disk right.new))) buffer.new }
-    ensures order { (on : Bool) (told : ℕ) → on ≡ true → Worked (Reads sector buffer.old buffer.new) (sides on told (L.Device.disk left.old) (R.Device.disk right.old)) result (sides (stays result) (told_after told result) (L.Device.disk left.new) (R.Device.disk right.new)) }
+    ensures meaning { (on : Bool) (told : ℕ) → on ≡ true → Read (mirrored (sides on told (L.Device.disk left.old) (R.Device.disk right.old))) sector buffer.old result (mirrored (sides (on_after result) (told_after told result) (L.Device.disk left.new) (R.Device.disk right.new))) buffer.new }
+    ensures order { (on : Bool) (told : ℕ) → on ≡ true → Worked (Reads sector buffer.old buffer.new) (sides on told (L.Device.disk left.old) (R.Device.disk right.old)) result (sides (on_after result) (told_after told result) (L.Device.disk left.new) (R.Device.disk right.new)) }
 {
     ask_in_turn(left, right, sector, buffer)
 }
