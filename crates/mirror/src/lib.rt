@@ -12,7 +12,7 @@ use device::{Device, DeviceFault, Power};
 
 mod turns;
 
-use turns::{read_either, restart_both, settle_both, write_both};
+use turns::{ask_in_turn, restart_in_turn, settle_in_turn, write_in_turn};
 
 // Two devices as one. Any failure on either side turns it off until a restart succeeds.
 #[derive(Drop)]
@@ -46,7 +46,7 @@ impl<L: Device, R: Device> Device for Mirror<L, R> {
         ensures exact { Worked (Reads sector buffer.old buffer.new) (view L.Device R.Device self.old) result (view L.Device R.Device self.new) }
     {
         device::admit(self.power.on, self.sectors(), 0, sector, buffer.len())?;
-        self.power.hand_up(read_either(&mut self.left, &mut self.right, sector, buffer))
+        self.power.hand_up(ask_in_turn(&mut self.left, &mut self.right, sector, buffer))
     }
 
     fn write(&mut self, sector: usize, bytes: &[u8]) -> Result<(), DeviceFault>
@@ -54,8 +54,7 @@ impl<L: Device, R: Device> Device for Mirror<L, R> {
         ensures exact { Worked (Writes sector bytes.now) (view L.Device R.Device self.old) result (view L.Device R.Device self.new) }
     {
         device::admit(self.power.on, self.sectors(), 0, sector, bytes.len())?;
-        self.power
-            .hand_up(write_both(&mut self.left, &mut self.right, sector, bytes))
+        self.power.hand_up(write_in_turn(&mut self.right, &mut self.left, sector, bytes))
     }
 
     fn barrier(&mut self) -> Result<(), DeviceFault>
@@ -66,7 +65,7 @@ impl<L: Device, R: Device> Device for Mirror<L, R> {
             return Err(DeviceFault::Power(0));
         }
         self.power
-            .hand_up(settle_both(&mut self.left, &mut self.right))
+            .hand_up(settle_in_turn(&mut self.right, &mut self.left))
     }
 
     fn restart(&mut self) -> Result<(), DeviceFault>
@@ -74,6 +73,6 @@ impl<L: Device, R: Device> Device for Mirror<L, R> {
         ensures exact { Restarts (view L.Device R.Device self.old) result (view L.Device R.Device self.new) × (self.new.power.on ≡ on_after result) × (self.new.power.told ≡ told_after self.old.power.told result) }
     {
         self.power
-            .hand_up(restart_both(&mut self.left, &mut self.right))
+            .hand_up(restart_in_turn(&mut self.right, &mut self.left))
     }
 }

@@ -1,13 +1,12 @@
-// Work on the two sides of a mirror in its order, and what the mirror is then as one device.
-ghost use Rattle.std.specs.Prelude.{◌≡◌, ℕ, ◌<◌, Bool, true, [], ◌∷◌, length};
-ghost use Rattle.device.specs.Meaning.{Read, Write, Barrier, Restart, on_after, told_after};
+// Work on the two sides of a mirror, in its order.
+ghost use Rattle.std.specs.Prelude.{◌≡◌, ◌<◌, true, [], ◌∷◌, length};
 ghost use Rattle.device.specs.Trace.{InTurn, wrote, settled, restarted};
-ghost use Rattle.mirror.specs.Sides.{sides, mirrored, Writes, Settles, Restarts, Reads, Worked};
+ghost use Rattle.mirror.specs.Sides.{sides, Reads};
 
 use device::{Device, DeviceFault};
 
 // Writes a sector on the first device, settles it there, and only then writes it on the second.
-fn write_in_turn<A: Device, B: Device>(
+pub(crate) fn write_in_turn<A: Device, B: Device>(
     first: &mut A,
     second: &mut B,
     sector: usize,
@@ -24,14 +23,20 @@ fn write_in_turn<A: Device, B: Device>(
     second.write(sector, bytes)
 }
 
-fn settle_in_turn<A: Device, B: Device>(first: &mut A, second: &mut B) -> Result<(), DeviceFault>
+pub(crate) fn settle_in_turn<A: Device, B: Device>(
+    first: &mut A,
+    second: &mut B,
+) -> Result<(), DeviceFault>
     ensures { InTurn (A.Device.disk first.old) (settled ∷ []) (B.Device.disk second.old) (settled ∷ []) result (A.Device.disk first.new) (B.Device.disk second.new) }
 {
     first.barrier()?;
     second.barrier()
 }
 
-fn restart_in_turn<A: Device, B: Device>(first: &mut A, second: &mut B) -> Result<(), DeviceFault>
+pub(crate) fn restart_in_turn<A: Device, B: Device>(
+    first: &mut A,
+    second: &mut B,
+) -> Result<(), DeviceFault>
     ensures { InTurn (A.Device.disk first.old) (restarted ∷ []) (B.Device.disk second.old) (restarted ∷ []) result (A.Device.disk first.new) (B.Device.disk second.new) }
 {
     first.restart()?;
@@ -39,7 +44,7 @@ fn restart_in_turn<A: Device, B: Device>(first: &mut A, second: &mut B) -> Resul
 }
 
 // Reads from the left side, or from the right one where the left is spoiled.
-fn ask_in_turn<L: Device, R: Device>(
+pub(crate) fn ask_in_turn<L: Device, R: Device>(
     left: &mut L,
     right: &mut R,
     sector: usize,
@@ -53,55 +58,4 @@ fn ask_in_turn<L: Device, R: Device>(
         Err(DeviceFault::Spoiled(_, _)) => right.read(sector, buffer),
         answer => answer,
     }
-}
-
-// The four below do the same for a mirror's own two sides, and say what the mirror then is.
-pub(crate) fn write_both<L: Device, R: Device>(
-    left: &mut L,
-    right: &mut R,
-    sector: usize,
-    bytes: &[u8],
-) -> Result<(), DeviceFault>
-    requires in_left { sector < (L.Device.disk left.old).plate.sectors }
-    requires in_right { sector < (R.Device.disk right.old).plate.sectors }
-    requires whole { length bytes.now ≡ 128 }
-    ensures meaning { (on : Bool) (told : ℕ) → on ≡ true → Write (mirrored (sides on told (L.Device.disk left.old) (R.Device.disk right.old))) sector bytes.now result (mirrored (sides (on_after result) (told_after told result) (L.Device.disk left.new) (R.Device.disk right.new))) }
-    ensures order { (on : Bool) (told : ℕ) → on ≡ true → Worked (Writes sector bytes.now) (sides on told (L.Device.disk left.old) (R.Device.disk right.old)) result (sides (on_after result) (told_after told result) (L.Device.disk left.new) (R.Device.disk right.new)) }
-{
-    write_in_turn(right, left, sector, bytes)
-}
-
-pub(crate) fn settle_both<L: Device, R: Device>(
-    left: &mut L,
-    right: &mut R,
-) -> Result<(), DeviceFault>
-    ensures meaning { (on : Bool) (told : ℕ) → on ≡ true → Barrier (mirrored (sides on told (L.Device.disk left.old) (R.Device.disk right.old))) result (mirrored (sides (on_after result) (told_after told result) (L.Device.disk left.new) (R.Device.disk right.new))) }
-    ensures order { (on : Bool) (told : ℕ) → on ≡ true → Worked Settles (sides on told (L.Device.disk left.old) (R.Device.disk right.old)) result (sides (on_after result) (told_after told result) (L.Device.disk left.new) (R.Device.disk right.new)) }
-{
-    settle_in_turn(right, left)
-}
-
-pub(crate) fn restart_both<L: Device, R: Device>(
-    left: &mut L,
-    right: &mut R,
-) -> Result<(), DeviceFault>
-    ensures meaning { (on : Bool) (told : ℕ) → Restart (mirrored (sides on told (L.Device.disk left.old) (R.Device.disk right.old))) result (mirrored (sides (on_after result) (told_after told result) (L.Device.disk left.new) (R.Device.disk right.new))) }
-    ensures order { Restarts (sides true 0 (L.Device.disk left.old) (R.Device.disk right.old)) result (sides true 0 (L.Device.disk left.new) (R.Device.disk right.new)) }
-{
-    restart_in_turn(right, left)
-}
-
-pub(crate) fn read_either<L: Device, R: Device>(
-    left: &mut L,
-    right: &mut R,
-    sector: usize,
-    buffer: &mut [u8],
-) -> Result<(), DeviceFault>
-    requires in_left { sector < (L.Device.disk left.old).plate.sectors }
-    requires in_right { sector < (R.Device.disk right.old).plate.sectors }
-    requires whole { length buffer.old ≡ 128 }
-    ensures meaning { (on : Bool) (told : ℕ) → on ≡ true → Read (mirrored (sides on told (L.Device.disk left.old) (R.Device.disk right.old))) sector buffer.old result (mirrored (sides (on_after result) (told_after told result) (L.Device.disk left.new) (R.Device.disk right.new))) buffer.new }
-    ensures order { (on : Bool) (told : ℕ) → on ≡ true → Worked (Reads sector buffer.old buffer.new) (sides on told (L.Device.disk left.old) (R.Device.disk right.old)) result (sides (on_after result) (told_after told result) (L.Device.disk left.new) (R.Device.disk right.new)) }
-{
-    ask_in_turn(left, right, sector, buffer)
 }
