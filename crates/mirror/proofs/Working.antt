@@ -1,5 +1,5 @@
 -- Work on the sides in the mirror's order keeps the device meaning.
-use Rattle.std.proofs.Common.{◌≡◌, ℕ, ◌<◌, true, List, ◌∷◌, length, Ok, Err, sym, refl, ap, ◌∙◌, subst, inl, inr, ⊎_elim, arith}
+use Rattle.std.proofs.Common.{◌≡◌, ℕ, ◌<◌, Bool, true, List, ◌∷◌, length, Ok, Err, sym, refl, ap, ◌∙◌, subst, inl, inr, ⊎_elim, arith}
 use Rattle.device.specs.declared.fault.DeviceFault.TheVariants.{Power, Misaddressed, Unfit, Spoiled}
 use Rattle.device.specs.Disk.{Plate, Disk, Shown, spoiled, holds, Among, Stands}
 use Rattle.device.specs.Meaning.{Answer, Addressed, NothingNew, Lost, Wrote, Settled, Restarted, Read, Write, Barrier, Restart, on_after, told_after}
@@ -219,18 +219,20 @@ second_means m m' s before after (Err (Spoiled t o)) on asked same gone w h =
       untouched = w.untouched;
     }
 
-pub read_means : (m m' : Sides) (s : ℕ) (before after : List ℕ) (a : Answer) → m.on ≡ true → Addressed (mirrored m) s (length before) → Reads s before after (sides true 0 m.left m.right) a (sides true 0 m'.left m'.right) → Handed m a m' → Read (mirrored m) s before a (mirrored m') after
-read_means m m' s before after a on asked (Ok u, (w, e, same)) h =
+-- n is the mirror before it has handed the answer up
+pub read_means : (m n : Sides) (on' : Bool) (told' : ℕ) (s : ℕ) (before after : List ℕ) (a : Answer) → m.on ≡ true → Addressed (mirrored m) s (length before) → Reads s before after m a n → Handed m a (sides on' told' n.left n.right) → Read (mirrored m) s before a (mirrored (sides on' told' n.left n.right)) after
+read_means m n on' told' s before after a on asked (Ok u, (w, e, same)) h =
     let done = rw e at h in
     rw e
     (record {
       on = on;
       asked = asked;
-      same = same_mirror m m' (done.on ∙ sym on) done.told w.same same;
+      same = same_mirror m (sides on' told' n.left n.right) (done.on ∙ sym on) done.told w.same same;
       shown = ap (λ x. either x (m.right.shows s)) w.shown;
     })
-read_means m m' s before after a on asked (Err (Power o), ((w, untouched), e, same)) h =
-    rw e (inr (on, lost_left m m' o (rw e at h) (faded_failed m.left m'.left o w) same), untouched)
-read_means m m' s before after a on asked (Err (Misaddressed t o), w) h = absurd w
-read_means m m' s before after a on asked (Err Unfit, w) h = absurd w
-read_means m m' s before after a on asked (Err (Spoiled t o), (w, v)) h = second_means m m' s before after a on asked w.same w.shown v h
+read_means m n on' told' s before after a on asked (Err (Power o), ((w, untouched), e, same)) h =
+    rw e (inr (on, lost_left m (sides on' told' n.left n.right) o (rw e at h) (faded_failed m.left n.left o w) same), untouched)
+read_means m n on' told' s before after a on asked (Err (Misaddressed t o), w) h = absurd w
+read_means m n on' told' s before after a on asked (Err Unfit, w) h = absurd w
+read_means m n on' told' s before after a on asked (Err (Spoiled t o), (w, v)) h =
+    second_means m (sides on' told' n.left n.right) s before after a on asked w.same w.shown v h

@@ -12,8 +12,6 @@ use device::{Device, DeviceFault, Power};
 
 mod turns;
 
-use turns::{ask_in_turn, restart_in_turn, settle_in_turn, write_in_turn};
-
 // Two devices as one. Any failure on either side turns it off until a restart succeeds.
 #[derive(Drop)]
 pub struct Mirror<L, R> {
@@ -46,7 +44,8 @@ impl<L: Device, R: Device> Device for Mirror<L, R> {
         ensures exact { Worked (Reads sector buffer.old buffer.new) (view L.Device R.Device self.old) result (view L.Device R.Device self.new) }
     {
         device::admit(self.power.on, self.sectors(), 0, sector, buffer.len())?;
-        self.power.hand_up(ask_in_turn(&mut self.left, &mut self.right, sector, buffer))
+        let answer = self.read_in_turn(sector, buffer);
+        self.power.hand_up(answer)
     }
 
     fn write(&mut self, sector: usize, bytes: &[u8]) -> Result<(), DeviceFault>
@@ -54,7 +53,8 @@ impl<L: Device, R: Device> Device for Mirror<L, R> {
         ensures exact { Worked (Writes sector bytes.now) (view L.Device R.Device self.old) result (view L.Device R.Device self.new) }
     {
         device::admit(self.power.on, self.sectors(), 0, sector, bytes.len())?;
-        self.power.hand_up(write_in_turn(&mut self.right, &mut self.left, sector, bytes))
+        let answer = self.write_in_turn(sector, bytes);
+        self.power.hand_up(answer)
     }
 
     fn barrier(&mut self) -> Result<(), DeviceFault>
@@ -64,15 +64,15 @@ impl<L: Device, R: Device> Device for Mirror<L, R> {
         if !self.power.on {
             return Err(DeviceFault::Power(0));
         }
-        self.power
-            .hand_up(settle_in_turn(&mut self.right, &mut self.left))
+        let answer = self.settle_in_turn();
+        self.power.hand_up(answer)
     }
 
     fn restart(&mut self) -> Result<(), DeviceFault>
         ensures meaning { Restart (mirrored (view L.Device R.Device self.old)) result (mirrored (view L.Device R.Device self.new)) }
         ensures exact { Restarts (view L.Device R.Device self.old) result (view L.Device R.Device self.new) × (self.new.power.on ≡ on_after result) × (self.new.power.told ≡ told_after self.old.power.told result) }
     {
-        self.power
-            .hand_up(restart_in_turn(&mut self.right, &mut self.left))
+        let answer = self.restart_in_turn();
+        self.power.hand_up(answer)
     }
 }

@@ -1,61 +1,56 @@
-// Work on the two sides of a mirror, in its order.
-ghost use Rattle.std.specs.Prelude.{◌≡◌, ◌<◌, true, [], ◌∷◌, length};
-ghost use Rattle.device.specs.Trace.{InTurn, wrote, settled, restarted};
-ghost use Rattle.mirror.specs.Sides.{sides, Reads};
+// What a mirror does on its two sides, in its order.
 
+ghost use Rattle.std.specs.Prelude.{◌≡◌, length};
+ghost use Rattle.device.specs.Meaning.{Addressed};
+ghost use Rattle.mirror.specs.View.{view};
+ghost use Rattle.mirror.specs.Sides.{mirrored, Writes, Settles, Restarts, Reads};
+
+use crate::Mirror;
 use device::{Device, DeviceFault};
 
-// Writes a sector on the first device, settles it there, and only then writes it on the second.
-pub(crate) fn write_in_turn<A: Device, B: Device>(
-    first: &mut A,
-    second: &mut B,
-    sector: usize,
-    bytes: &[u8],
-) -> Result<(), DeviceFault>
-    requires in_first { sector < (A.Device.disk first.old).plate.sectors }
-    requires in_second { sector < (B.Device.disk second.old).plate.sectors }
-    requires whole { length bytes.now ≡ 128 }
-    ensures { InTurn (A.Device.disk first.old) (wrote sector bytes.now ∷ settled ∷ []) (B.Device.disk second.old) (wrote sector bytes.now ∷ []) result (A.Device.disk first.new) (B.Device.disk second.new) }
-{
-    first.write(sector, bytes)?;
-    // Were the second touched before this, power could spoil the sector on both.
-    Device::barrier(first)?;
-    second.write(sector, bytes)
-}
+// One function with the steps as closures is no plainer than these: its contract would speak of what each step answers.
+impl<L: Device, R: Device> Mirror<L, R> {
+    // Writes a sector on the right side, settles it there, and only then writes it on the left.
+    pub(crate) fn write_in_turn(&mut self, sector: usize, bytes: &[u8]) -> Result<(), DeviceFault>
+        requires { Addressed (mirrored (view L.Device R.Device self.old)) sector (length bytes.now) }
+        ensures work { Writes sector bytes.now (view L.Device R.Device self.old) result (view L.Device R.Device self.new) }
+        ensures power { self.new.power ≡ self.old.power }
+    {
+        self.right.write(sector, bytes)?;
+        // Were the left touched before this, power could spoil the sector on both.
+        Device::barrier(&mut self.right)?;
+        self.left.write(sector, bytes)
+    }
 
-pub(crate) fn settle_in_turn<A: Device, B: Device>(
-    first: &mut A,
-    second: &mut B,
-) -> Result<(), DeviceFault>
-    ensures { InTurn (A.Device.disk first.old) (settled ∷ []) (B.Device.disk second.old) (settled ∷ []) result (A.Device.disk first.new) (B.Device.disk second.new) }
-{
-    first.barrier()?;
-    second.barrier()
-}
+    pub(crate) fn settle_in_turn(&mut self) -> Result<(), DeviceFault>
+        ensures work { Settles (view L.Device R.Device self.old) result (view L.Device R.Device self.new) }
+        ensures power { self.new.power ≡ self.old.power }
+    {
+        self.right.barrier()?;
+        self.left.barrier()
+    }
 
-pub(crate) fn restart_in_turn<A: Device, B: Device>(
-    first: &mut A,
-    second: &mut B,
-) -> Result<(), DeviceFault>
-    ensures { InTurn (A.Device.disk first.old) (restarted ∷ []) (B.Device.disk second.old) (restarted ∷ []) result (A.Device.disk first.new) (B.Device.disk second.new) }
-{
-    first.restart()?;
-    second.restart()
-}
+    pub(crate) fn restart_in_turn(&mut self) -> Result<(), DeviceFault>
+        ensures work { Restarts (view L.Device R.Device self.old) result (view L.Device R.Device self.new) }
+        ensures power { self.new.power ≡ self.old.power }
+    {
+        self.right.restart()?;
+        self.left.restart()
+    }
 
-// Reads from the left side, or from the right one where the left is spoiled.
-pub(crate) fn ask_in_turn<L: Device, R: Device>(
-    left: &mut L,
-    right: &mut R,
-    sector: usize,
-    buffer: &mut [u8],
-) -> Result<(), DeviceFault>
-    requires in_left { sector < (L.Device.disk left.old).plate.sectors }
-    requires whole { length buffer.old ≡ 128 }
-    ensures { Reads sector buffer.old buffer.new (sides true 0 (L.Device.disk left.old) (R.Device.disk right.old)) result (sides true 0 (L.Device.disk left.new) (R.Device.disk right.new)) }
-{
-    match left.read(sector, buffer) {
-        Err(DeviceFault::Spoiled(_, _)) => right.read(sector, buffer),
-        answer => answer,
+    // Reads from the left side, or from the right one where the left is spoiled.
+    pub(crate) fn read_in_turn(
+        &mut self,
+        sector: usize,
+        buffer: &mut [u8],
+    ) -> Result<(), DeviceFault>
+        requires { Addressed (mirrored (view L.Device R.Device self.old)) sector (length buffer.old) }
+        ensures work { Reads sector buffer.old buffer.new (view L.Device R.Device self.old) result (view L.Device R.Device self.new) }
+        ensures power { self.new.power ≡ self.old.power }
+    {
+        match self.left.read(sector, buffer) {
+            Err(DeviceFault::Spoiled(_, _)) => self.right.read(sector, buffer),
+            answer => answer,
+        }
     }
 }
