@@ -1,12 +1,11 @@
 -- What a write does to the bytes, the flags and the plan is what a write means.
-use Rattle.std.proofs.Common.{◌≡◌, ℕ, ◌+◌, ◌*◌, ◌/◌, ◌<◌, ◌≤◌, min, Bool, true, false, cond, eqb, ◌≢◌, ◌⊎◌, List, [], ◌∷◌, length, get_or, set, Ok, Err, sym, refl, ap, ◌∙◌, subst, inl, inr, ⊎_elim, arith}
+use Rattle.std.proofs.Common.{◌≡◌, ℕ, ◌<◌, ◌≤◌, Bool, true, false, cond, eqb, ◌≢◌, ◌⊎◌, List, [], ◌∷◌, length, get_or, set, Ok, Err, sym, refl, ap, ◌∙◌, subst, inl, inr, ⊎_elim, arith}
 use Rattle.std.proofs.lemmas.List.{length-set, get_or-set_same, get_or-set_other}
 use Rattle.std.proofs.lemmas.Bool.{cases_lt, cases_eq}
 use Rattle.device.specs.declared.fault.DeviceFault.TheVariants.{Power}
 use Rattle.device.specs.Disk.{Plate, Shown, spoiled, holds}
 use Rattle.device.specs.Meaning.{Answer, Write, Addressed, NothingNew}
-use Rattle.device.proofs.Sectors.{put_there, put_elsewhere, length_put}
-use Rattle.bench.specs.Card.{Card, model, sectors, cell, put, flag, shown, code, next}
+use Rattle.bench.specs.Card.{Card, model, sectors, cell, flag, shown, code, next}
 use Rattle.bench.specs.Calls.{Ready, Wrong, Left, Stored}
 
 -- what a sector with this flag and these bytes shows
@@ -16,17 +15,10 @@ face f bytes = cond (eqb f 0) (holds bytes) spoiled
 plate_of : ℕ → ℕ → Plate
 plate_of n o = record { sectors = n; origin = o; ends = o ∷ []; blames = λ _. o }
 
--- a device whose bytes and flags are as long as they were is the same device
-same_plate : (c e : Card) → length e.bytes ≡ length c.bytes → length e.flags ≡ length c.flags → e.origin ≡ c.origin → (model e).plate ≡ (model c).plate
+-- a device whose flags are as long as they were is the same device
+same_plate : (c e : Card) → length e.flags ≡ length c.flags → e.origin ≡ c.origin → (model e).plate ≡ (model c).plate
 unfolding plate_of
-same_plate c e b f o =
-    ap (λ n. plate_of (min n (length e.bytes / 128)) e.origin) f
-    ∙ ap (λ n. plate_of (min (length c.flags) (n / 128)) e.origin) b
-    ∙ ap (λ n. plate_of (sectors c) n) o
-
--- the sector's bytes lie within the bytes
-room : (c : Card) (s : ℕ) → s < sectors c → 128 * s + 128 ≤ length c.bytes
-room c s there = omega arith
+same_plate c e f o = ap (λ n. plate_of n e.origin) f ∙ ap (λ n. plate_of (sectors c) n) o
 
 -- how a call left the sectors
 record Seen (c : Card) (s : ℕ) (x : Shown) (e : Card) : Type 0 where
@@ -37,37 +29,34 @@ record Seen (c : Card) (s : ℕ) (x : Shown) (e : Card) : Type 0 where
 face_at : (f : ℕ) (xs ys : List ℕ) → f ≡ 0 → xs ≡ ys → face f xs ≡ holds ys
 face_at f xs ys z same = ap (λ n. face n xs) z ∙ ap holds same
 
-filled : (c : Card) (s : ℕ) (bytes : List ℕ) (n : ℕ) (b : Bool) (e : Card) → Ready c s (length bytes) → Left c (put c.bytes s bytes) (set c.flags s 0) n b e → Seen c s (holds bytes) e
-filled c s bytes n b e ready left =
-    let fits : length bytes ≡ 128 = ready.fits in
-    let in_bytes : 128 * s + 128 ≤ length c.bytes = room c s ready.there in
-    let in-flags : s < length c.flags = let h = ready.there in omega arith in
+filled : (c : Card) (s : ℕ) (bytes codes : List ℕ) (b : Bool) (e : Card) → length c.cells ≡ length c.flags → Ready c s (length bytes) → Left c (set c.cells s bytes) (set c.flags s 0) codes b e → Seen c s (holds bytes) e
+filled c s bytes codes b e fit ready left =
+    let in_cells : s < length c.cells = let h = ready.there in omega arith in
     record {
-      same = same_plate c e (ap length left.bytes ∙ length_put c.bytes bytes s fits in_bytes) (ap length left.flags ∙ length-set c.flags s 0) left.origin;
-      there = face_at (flag e s) (cell e.bytes s) bytes
-          (ap (λ fs. get_or fs s 0) left.flags ∙ get_or-set_same c.flags s 0 0 in-flags)
-          (ap (λ bs. cell bs s) left.bytes ∙ put_there c.bytes bytes s fits in_bytes);
+      same = same_plate c e (ap length left.flags ∙ length-set c.flags s 0) left.origin;
+      there = face_at (flag e s) (cell e s) bytes
+          (ap (λ fs. get_or fs s 0) left.flags ∙ get_or-set_same c.flags s 0 0 ready.there)
+          (ap (λ cs. get_or cs s []) left.cells ∙ get_or-set_same c.cells s bytes [] in_cells);
       elsewhere = λ i other.
-          ap (λ f. face f (cell e.bytes i)) (ap (λ fs. get_or fs i 0) left.flags ∙ get_or-set_other c.flags s i 0 0 other)
-          ∙ ap (λ bs. face (flag c i) bs) (ap (λ bs. cell bs i) left.bytes ∙ put_elsewhere c.bytes bytes s i fits in_bytes other);
+          ap (λ f. face f (cell e i)) (ap (λ fs. get_or fs i 0) left.flags ∙ get_or-set_other c.flags s i 0 0 other)
+          ∙ ap (λ bs. face (flag c i) bs) (ap (λ cs. get_or cs i []) left.cells ∙ get_or-set_other c.cells s i bytes [] other);
     }
 
-marred : (c : Card) (s m n : ℕ) (b : Bool) (e : Card) → Ready c s m → Left c c.bytes (set c.flags s 1) n b e → Seen c s spoiled e
-marred c s m n b e ready left =
-    let in-flags : s < length c.flags = let h = ready.there in omega arith in
+marred : (c : Card) (s m : ℕ) (codes : List ℕ) (b : Bool) (e : Card) → Ready c s m → Left c c.cells (set c.flags s 1) codes b e → Seen c s spoiled e
+marred c s m codes b e ready left =
     record {
-      same = same_plate c e (ap length left.bytes) (ap length left.flags ∙ length-set c.flags s 1) left.origin;
-      there = ap (λ f. face f (cell e.bytes s)) (ap (λ fs. get_or fs s 0) left.flags ∙ get_or-set_same c.flags s 1 0 in-flags);
+      same = same_plate c e (ap length left.flags ∙ length-set c.flags s 1) left.origin;
+      there = ap (λ f. face f (cell e s)) (ap (λ fs. get_or fs s 0) left.flags ∙ get_or-set_same c.flags s 1 0 ready.there);
       elsewhere = λ i other.
-          ap (λ f. face f (cell e.bytes i)) (ap (λ fs. get_or fs i 0) left.flags ∙ get_or-set_other c.flags s i 1 0 other)
-          ∙ ap (λ bs. face (flag c i) (cell bs i)) left.bytes;
+          ap (λ f. face f (cell e i)) (ap (λ fs. get_or fs i 0) left.flags ∙ get_or-set_other c.flags s i 1 0 other)
+          ∙ ap (λ cs. face (flag c i) (get_or cs i [])) left.cells;
     }
 
-kept : (c : Card) (s n : ℕ) (b : Bool) (e : Card) → Left c c.bytes c.flags n b e → Seen c s (shown c s) e
-kept c s n b e left =
-    let all : (i : ℕ) → shown e i ≡ shown c i = λ i. ap (λ fs. face (get_or fs i 0) (cell e.bytes i)) left.flags ∙ ap (λ bs. face (flag c i) (cell bs i)) left.bytes in
+kept : (c : Card) (s : ℕ) (codes : List ℕ) (b : Bool) (e : Card) → Left c c.cells c.flags codes b e → Seen c s (shown c s) e
+kept c s codes b e left =
+    let all : (i : ℕ) → shown e i ≡ shown c i = λ i. ap (λ fs. face (get_or fs i 0) (cell e i)) left.flags ∙ ap (λ cs. face (flag c i) (get_or cs i [])) left.cells in
     record {
-      same = same_plate c e (ap length left.bytes) (ap length left.flags) left.origin;
+      same = same_plate c e (ap length left.flags) left.origin;
       there = all s;
       elsewhere = λ i other. all i;
     }
@@ -84,10 +73,10 @@ At c s bytes e r = Write (model c) s bytes r (model e)
 addressed : (c : Card) (s n : ℕ) → Ready c s n → Addressed (model c) s n
 addressed c s n ready = record { there = ready.there; fits = ready.fits }
 
-did : (c : Card) (s : ℕ) (bytes : List ℕ) (n : ℕ) (e : Card) → Ready c s (length bytes) → Left c (put c.bytes s bytes) (set c.flags s 0) n true e → At c s bytes e (Ok tt)
+did : (c : Card) (s : ℕ) (bytes codes : List ℕ) (e : Card) → length c.cells ≡ length c.flags → Ready c s (length bytes) → Left c (set c.cells s bytes) (set c.flags s 0) codes true e → At c s bytes e (Ok tt)
 unfolding At
-did c s bytes n e ready left =
-    let seen = filled c s bytes n true e ready left in
+did c s bytes codes e fit ready left =
+    let seen = filled c s bytes codes true e fit ready left in
     record {
       was_on = ready.on;
       on = left.on;
@@ -120,17 +109,17 @@ tore c s bytes x e ready off seen may =
     }
 
 -- on and addressed, by the code of the plan
-obeyed : (c : Card) (s : ℕ) (bytes : List ℕ) (r : Answer) (e : Card) → Stored c s bytes r e → Ready c s (length bytes) → At c s bytes e r
-obeyed c s bytes r e h ready =
+obeyed : (c : Card) (s : ℕ) (bytes : List ℕ) (r : Answer) (e : Card) → length c.cells ≡ length c.flags → Stored c s bytes r e → Ready c s (length bytes) → At c s bytes e r
+obeyed c s bytes r e fit h ready =
     let P : Answer → Type 0 = At c s bytes e in
     ⊎_elim
-    (λ zero. let w = h.done ready zero in subst P (sym w.0) (did c s bytes (next c) e ready w.1))
+    (λ zero. let w = h.done ready zero in subst P (sym w.0) (did c s bytes (next c) e fit ready w.1))
     (λ not0. ⊎_elim
     (λ one. let w = h.old ready one in
     subst P (sym w.0) (tore c s bytes (shown c s) e ready w.1.on (kept c s (next c) false e w.1) (inl refl)))
     (λ not1. ⊎_elim
     (λ two. let w = h.new ready two in
-    subst P (sym w.0) (tore c s bytes (holds bytes) e ready w.1.on (filled c s bytes (next c) false e ready w.1) (inr (inl refl))))
+    subst P (sym w.0) (tore c s bytes (holds bytes) e ready w.1.on (filled c s bytes (next c) false e fit ready w.1) (inr (inl refl))))
     (λ not2. let three : 3 ≤ code c = omega arith in let w = h.spoiled ready three in
     subst P (sym w.0) (tore c s bytes spoiled e ready w.1.on (marred c s (length bytes) (next c) false e ready w.1) (inr (inr refl))))
     (cases_eq (code c) 2))
@@ -152,19 +141,19 @@ silenced c s bytes r e h off =
     subst P (sym w.0) (inl record { off = off; origin = refl; same = ap model w.1 })
 
 -- on: addressed or not
-answered : (c : Card) (s : ℕ) (bytes : List ℕ) (r : Answer) (e : Card) → Stored c s bytes r e → c.on ≡ true → At c s bytes e r
-answered c s bytes r e h on =
+answered : (c : Card) (s : ℕ) (bytes : List ℕ) (r : Answer) (e : Card) → length c.cells ≡ length c.flags → Stored c s bytes r e → c.on ≡ true → At c s bytes e r
+answered c s bytes r e fit h on =
     ⊎_elim
     (λ there. ⊎_elim
-    (λ fits. obeyed c s bytes r e h record { on = on; there = there; fits = fits })
+    (λ fits. obeyed c s bytes r e fit h record { on = on; there = there; fits = fits })
     (λ misfit. refused c s bytes r e h record { on = on; why = inr misfit })
     (cases_eq (length bytes) 128))
     (λ past. refused c s bytes r e h record { on = on; why = inl past })
     (cases_lt s (sectors c))
 
-pub written : (c : Card) (s : ℕ) (bytes : List ℕ) (r : Answer) (e : Card) → Stored c s bytes r e → Write (model c) s bytes r (model e)
+pub written : (c : Card) (s : ℕ) (bytes : List ℕ) (r : Answer) (e : Card) → length c.cells ≡ length c.flags → Stored c s bytes r e → Write (model c) s bytes r (model e)
 unfolding At
-written c s bytes r e h =
+written c s bytes r e fit h =
     let by : (b : Bool) → c.on ≡ b → At c s bytes e r =
-    λ b. elim b as (λ v. c.on ≡ v → At c s bytes e r) [ true ↦ answered c s bytes r e h | false ↦ silenced c s bytes r e h ] in
+    λ b. elim b as (λ v. c.on ≡ v → At c s bytes e r) [ true ↦ answered c s bytes r e fit h | false ↦ silenced c s bytes r e h ] in
     by c.on refl

@@ -3,9 +3,6 @@ use Rattle.bench.specs.Card.{card}
 use Rattle.bench.proofs.Meant.{written}
 use Rattle.bench.proofs.BenchDevice.write.Goals as goal
 
-pub returns : goal.returns
-returns c =
-    record {
-      meaning = written (card c.args.self.now) c.args.sector c.args.bytes.now c.perform.result (card c.perform.new.self) c.perform.ensures;
-      exact = c.perform.ensures;
-    }
+pub returns-clause-meaning : goal.returns-clause-meaning
+returns-clause-meaning c =
+    written (card c.args.self.now) c.args.sector c.args.bytes.now c.perform.result (card c.perform.new.self) c.args.self.now.fit c.perform.ensures
