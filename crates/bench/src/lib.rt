@@ -24,7 +24,7 @@ pub struct Bench<'a> {
 }
 
 impl<'a> Bench<'a> {
-    ghost use Rattle.bench.specs.Calls.{Made, Filled, Stored};
+    ghost use Rattle.bench.specs.Calls.{Made, Filled};
     ghost use Rattle.bench.specs.Card.{card, cell, sectors};
     ghost use Rattle.device.specs.Meaning.{Admitted};
 
@@ -81,28 +81,6 @@ impl<'a> Bench<'a> {
         cell.copy_from_slice(bytes);
         self.flags[sector] = 0;
     }
-
-    // A write, as the plan has it: what it answers, and all that it leaves behind.
-    fn perform(&mut self, sector: usize, bytes: &[u8]) -> Result<(), DeviceFault>
-        ensures { Stored (card self.old) sector bytes.now result (card self.new) }
-    {
-        self.admit(sector, bytes.len())?;
-        match self.supply.take() {
-            Fate::Done => {
-                self.fill(sector, bytes);
-                Ok(())
-            }
-            Fate::Old => Err(DeviceFault::Power(self.origin)),
-            Fate::New => {
-                self.fill(sector, bytes);
-                Err(DeviceFault::Power(self.origin))
-            }
-            Fate::Spoiled => {
-                self.flags[sector] = 1;
-                Err(DeviceFault::Power(self.origin))
-            }
-        }
-    }
 }
 
 impl<'a> Device for Bench<'a> {
@@ -135,7 +113,22 @@ impl<'a> Device for Bench<'a> {
         ensures meaning { Write (model (card self.old)) sector bytes.now result (model (card self.new)) }
         ensures exact { Stored (card self.old) sector bytes.now result (card self.new) }
     {
-        self.perform(sector, bytes)
+        self.admit(sector, bytes.len())?;
+        match self.supply.take() {
+            Fate::Done => {
+                self.fill(sector, bytes);
+                Ok(())
+            }
+            Fate::Old => Err(DeviceFault::Power(self.origin)),
+            Fate::New => {
+                self.fill(sector, bytes);
+                Err(DeviceFault::Power(self.origin))
+            }
+            Fate::Spoiled => {
+                self.flags[sector] = 1;
+                Err(DeviceFault::Power(self.origin))
+            }
+        }
     }
 
     fn barrier(&mut self) -> Result<(), DeviceFault>

@@ -1,8 +1,12 @@
--- What a write left is what a write means.
-use Rattle.bench.specs.Card.{card}
-use Rattle.bench.proofs.Meant.{written}
+-- Power that fails in a write leaves what a torn write may leave.
+use Rattle.std.proofs.Common.{rules, inr, inl, refl}
 use Rattle.bench.proofs.BenchDevice.write.Goals as goal
 
-pub returns-clause-meaning : goal.returns-clause-meaning
-returns-clause-meaning c =
-    written (card c.args.self.now) c.args.sector c.args.bytes.now c.perform.result (card c.perform.new.self) c.args.self.now.fit c.perform.ensures
+pub returns-in-Old-clause-meaning : goal.returns-in-Old-clause-meaning
+returns-in-Old-clause-meaning c = inr (search rules)
+
+pub returns-in-New-clause-meaning : goal.returns-in-New-clause-meaning
+returns-in-New-clause-meaning c = inr (search rules)
+
+pub returns-in-Spoiled-clause-meaning : goal.returns-in-Spoiled-clause-meaning
+returns-in-Spoiled-clause-meaning c = inr (search rules)
