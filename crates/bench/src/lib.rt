@@ -76,6 +76,7 @@ impl<'a> Bench<'a> {
         requires { (sector < sectors (card self.old)) × (length bytes.now ≡ 128) }
         ensures { Filled (card self.old) sector bytes.now (card self.new) }
     {
+        // The check follows a write into one sector where each step of the way is a variable.
         let cells = &mut *self.cells;
         let cell = &mut cells[sector];
         cell.copy_from_slice(bytes);
@@ -114,20 +115,16 @@ impl<'a> Device for Bench<'a> {
         ensures exact { Stored (card self.old) sector bytes.now result (card self.new) }
     {
         self.admit(sector, bytes.len())?;
-        match self.supply.take() {
-            Fate::Done => {
-                self.fill(sector, bytes);
-                Ok(())
-            }
-            Fate::Old => Err(DeviceFault::Power(self.origin)),
-            Fate::New => {
-                self.fill(sector, bytes);
-                Err(DeviceFault::Power(self.origin))
-            }
-            Fate::Spoiled => {
-                self.flags[sector] = 1;
-                Err(DeviceFault::Power(self.origin))
-            }
+        let fate = self.supply.take();
+        match fate {
+            Fate::Done | Fate::New => self.fill(sector, bytes),
+            Fate::Old => {}
+            Fate::Spoiled => self.flags[sector] = 1,
+        }
+        if fate == Fate::Done {
+            Ok(())
+        } else {
+            Err(DeviceFault::Power(self.origin))
         }
     }
 

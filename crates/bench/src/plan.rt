@@ -14,7 +14,7 @@ pub(crate) enum Fate {
 
 // A code that says nothing of a write.
 #[derive(Clone, Copy, PartialEq, Eq, Debug)]
-pub(crate) struct UnknownCode(pub u8);
+pub(crate) struct UnknownCode(u8);
 
 impl TryFrom<u8> for Fate {
     type Error = UnknownCode;
@@ -39,7 +39,8 @@ pub(crate) fn known(plan: &[u8]) -> bool
     plan.iter().all(|code| Fate::try_from(*code).is_ok())
 }
 
-// Power that fails where a plan says so.
+// Power that fails where a plan says so. That its codes are known is the device's invariant: a ghost field here
+// would be a second one within a `Result` that holds a `&mut`, and the check refuses that.
 #[derive(Drop)]
 pub(crate) struct Supply<'a> {
     // The codes that are not taken, one for each write, in their order.
