@@ -2,8 +2,8 @@
 
 #![tactic(auto)]
 
-ghost use Rattle.battery.specs.Memory.{model, New, Put, Fetched, Stored, Idle};
-ghost use Rattle.std.specs.Prelude.{◌≡◌, ◌+◌, ◌*◌, ◌≤◌, length};
+ghost use Rattle.battery.specs.Memory.{model, New, Fetched, Stored, Idle};
+ghost use Rattle.std.specs.Prelude.{◌≡◌};
 ghost use Rattle.device.specs.Meaning.{Read, Write, Barrier, Restart};
 
 use device::{Device, DeviceFault, SECTOR};
@@ -11,13 +11,10 @@ use device::{Device, DeviceFault, SECTOR};
 // The number of sectors.
 const SECTORS: usize = 224;
 
-// The number of bytes in all sectors together.
-const BYTES: usize = 28672;
-
-// A battery memory, by its bytes and the number that it tells as its origin.
+// A battery memory, by its sectors and the number that it tells as its origin.
 #[derive(Drop)]
 pub struct Battery {
-    bytes: [u8; BYTES],
+    sectors: [[u8; SECTOR]; SECTORS],
     origin: u8,
 }
 
@@ -27,7 +24,7 @@ impl Battery {
         ensures { New origin result }
     {
         Battery {
-            bytes: [0; BYTES],
+            sectors: [[0; SECTOR]; SECTORS],
             origin,
         }
     }
@@ -39,7 +36,7 @@ impl Device for Battery {
     fn sectors(&self) -> usize
         ensures { result ≡ 224 }
     {
-        self.bytes.len() / SECTOR
+        self.sectors.len()
     }
 
     // A buffer that is refused stays as it was.
@@ -47,11 +44,8 @@ impl Device for Battery {
         ensures meaning { Read (model self.old) sector buffer.old result (model self.new) buffer.new }
         ensures exact { Fetched self.old sector buffer.old result self.new buffer.new }
     {
-        if sector >= SECTORS || buffer.len() != SECTOR {
-            return Err(DeviceFault::Misaddressed(sector, self.origin));
-        }
-        let start = sector * SECTOR;
-        buffer.copy_from_slice(&self.bytes[start..start + SECTOR]);
+        device::admit(true, SECTORS, self.origin, sector, buffer.len())?;
+        buffer.copy_from_slice(&self.sectors[sector]);
         Ok(())
     }
 
@@ -59,10 +53,8 @@ impl Device for Battery {
         ensures meaning { Write (model self.old) sector bytes.now result (model self.new) }
         ensures exact { Stored self.old sector bytes.now result self.new }
     {
-        if sector >= SECTORS || bytes.len() != SECTOR {
-            return Err(DeviceFault::Misaddressed(sector, self.origin));
-        }
-        put(&mut self.bytes, sector, bytes);
+        device::admit(true, SECTORS, self.origin, sector, bytes.len())?;
+        self.sectors[sector].copy_from_slice(bytes);
         Ok(())
     }
 
@@ -79,13 +71,4 @@ impl Device for Battery {
     {
         Ok(()) // It was never off.
     }
-}
-
-// Puts `new` where sector `sector` stands in `all`.
-fn put(all: &mut [u8], sector: usize, new: &[u8])
-    requires { (128 * sector + 128 ≤ length all.old) × (length new.now ≡ 128) }
-    ensures { Put all.old sector new.now all.new }
-{
-    let start = sector * SECTOR;
-    all[start..start + SECTOR].copy_from_slice(new);
 }

@@ -1,3 +1,4 @@
 -- What a bench device holds, and what each call does to it.
+pub mod Plan
 pub mod Card
 pub mod Calls

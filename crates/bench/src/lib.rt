@@ -2,83 +2,32 @@
 
 #![tactic(auto)]
 
-ghost use Rattle.bench.specs.Calls.{Made, Known, Means, stays, Took, Filled, Stored, Fetched, Waited, Woken};
-ghost use Rattle.bench.specs.Card.{card, cell, code_at, put, model, sectors};
-ghost use Rattle.device.specs.Meaning.{Admitted, Read, Write, Barrier, Restart};
-ghost use Rattle.std.specs.Prelude.{◌≡◌, ◌+◌, ◌*◌, ◌<◌, ◌≤◌, true, T, length};
+ghost use Rattle.bench.specs.Plan.{Known};
+ghost use Rattle.std.specs.Prelude.{◌≡◌, ◌<◌, length};
 
 use device::{Device, DeviceFault, SECTOR};
 
-// The codes of a plan, one for each thing that may become of a write.
-const DONE: u8 = 0;
+mod plan;
 
-const OLD: u8 = 1;
-
-const NEW: u8 = 2;
-
-const SPOILED: u8 = 3;
-
-// What becomes of a write: it is done, or power fails and leaves the old contents, the new ones, or a
-// spoiled sector.
-#[derive(Clone, Copy)]
-enum Fate {
-    Done,
-    Old,
-    New,
-    Spoiled,
-}
-
-impl Fate {
-    // What a code of the plan says. A device that was made has no code above SPOILED.
-    fn of(code: u8) -> Fate
-        ensures { Means code result }
-    {
-        match code {
-            DONE => Fate::Done,
-            OLD => Fate::Old,
-            NEW => Fate::New,
-            _ => Fate::Spoiled,
-        }
-    }
-}
-
-// Power that fails where a plan says so.
-#[derive(Drop)]
-struct Supply<'a> {
-    // A code for each write, in their order.
-    plan: &'a [u8],
-    // How many codes are taken.
-    taken: usize,
-    on: bool,
-}
-
-impl Supply<'_> {
-    // Takes the next code, and fails unless it says that power stays on, as it does past the end.
-    fn take(&mut self) -> Fate
-        requires { self.old.on ≡ true }
-        ensures means { Means (code_at self.old.plan.now self.old.taken) result }
-        ensures power { self.new.on ≡ stays result }
-        ensures took { Took self.old self.new }
-    {
-        let Some(code) = self.plan.get(self.taken) else {
-            return Fate::Done;
-        };
-        self.taken += 1;
-        self.on = *code == DONE;
-        Fate::of(*code)
-    }
-}
+use plan::{Fate, Supply};
 
 // Sectors in the caller's bytes, with a flag for each that is not 0 where the sector is spoiled.
 #[derive(Drop)]
 pub struct Bench<'a> {
-    bytes: &'a mut [u8],
+    // The caller lends the sectors and the flags as two lists, so they are two here.
+    cells: &'a mut [[u8; SECTOR]],
     flags: &'a mut [u8],
     supply: Supply<'a>,
     origin: u8,
+    ghost fit: { length cells.now ≡ length flags.now },
+    ghost known: { Known supply.codes.now },
 }
 
 impl<'a> Bench<'a> {
+    ghost use Rattle.bench.specs.Calls.{Made, Filled};
+    ghost use Rattle.bench.specs.Card.{card, cell, sectors};
+    ghost use Rattle.device.specs.Meaning.{Admitted};
+
     // A device that is on, with no code of the plan taken. The three slices are lent for one lifetime,
     // so it is made where they are parameters under one.
     pub fn new(
@@ -89,16 +38,14 @@ impl<'a> Bench<'a> {
     ) -> Result<Bench<'a>, DeviceFault>
         ensures { Made bytes.old flags.old plan.now origin result }
     {
-        // The product might not fit a usize, so the lengths are compared by division.
-        let whole = bytes.len() % SECTOR == 0 && bytes.len() / SECTOR == flags.len();
-        if whole && known(plan) {
+        let (cells, left) = bytes.as_chunks_mut();
+        if left.is_empty() && cells.len() == flags.len() && plan::known(plan) {
             let supply = Supply {
-                plan,
-                taken: 0,
+                codes: plan,
                 on: true,
             };
             Ok(Bench {
-                bytes,
+                cells,
                 flags,
                 supply,
                 origin,
@@ -112,23 +59,16 @@ impl<'a> Bench<'a> {
     fn admit(&self, sector: usize, size: usize) -> Result<(), DeviceFault>
         ensures { Admitted self.now.supply.on (sectors (card self.now)) self.now.origin sector size result }
     {
-        device::admit(self.supply.on, self.count(), self.origin, sector, size)
-    }
-
-    // As many sectors as have both their bytes and a flag: in a device that was made, all.
-    fn count(&self) -> usize
-        ensures { result ≡ sectors (card self.now) }
-    {
-        self.flags.len().min(self.bytes.len() / SECTOR)
+        device::admit(self.supply.on, self.flags.len(), self.origin, sector, size)
     }
 
     // Copies a sector out.
     fn fetch(&self, sector: usize, buffer: &mut [u8])
         requires { (sector < sectors (card self.now)) × (length buffer.old ≡ 128) }
-        ensures { buffer.new ≡ cell self.now.bytes.now sector }
+        ensures { buffer.new ≡ cell (card self.now) sector }
     {
-        let start = sector * SECTOR;
-        buffer.copy_from_slice(&self.bytes[start..start + SECTOR]);
+        let cells = &*self.cells;
+        buffer.copy_from_slice(&cells[sector]);
     }
 
     // Writes a sector, which is then not spoiled.
@@ -136,40 +76,25 @@ impl<'a> Bench<'a> {
         requires { (sector < sectors (card self.old)) × (length bytes.now ≡ 128) }
         ensures { Filled (card self.old) sector bytes.now (card self.new) }
     {
-        put(self.bytes, sector, bytes);
+        // The check follows a write into one sector where each step of the way is a variable.
+        let cells = &mut *self.cells;
+        let cell = &mut cells[sector];
+        cell.copy_from_slice(bytes);
         self.flags[sector] = 0;
-    }
-
-    // A write, as the plan has it: what it answers, and all that it leaves behind.
-    fn perform(&mut self, sector: usize, bytes: &[u8]) -> Result<(), DeviceFault>
-        ensures { Stored (card self.old) sector bytes.now result (card self.new) }
-    {
-        self.admit(sector, bytes.len())?;
-        match self.supply.take() {
-            Fate::Done => {
-                self.fill(sector, bytes);
-                Ok(())
-            }
-            Fate::Old => Err(DeviceFault::Power(self.origin)),
-            Fate::New => {
-                self.fill(sector, bytes);
-                Err(DeviceFault::Power(self.origin))
-            }
-            Fate::Spoiled => {
-                self.flags[sector] = 1;
-                Err(DeviceFault::Power(self.origin))
-            }
-        }
     }
 }
 
 impl<'a> Device for Bench<'a> {
+    ghost use Rattle.bench.specs.Calls.{Stored, Fetched, Waited, Woken};
+    ghost use Rattle.bench.specs.Card.{card, model, sectors};
+    ghost use Rattle.device.specs.Meaning.{Read, Write, Barrier, Restart};
+
     ghost disk = { λ b. model (card b) };
 
     fn sectors(&self) -> usize
         ensures { result ≡ sectors (card self.now) }
     {
-        self.count()
+        self.flags.len()
     }
 
     // A buffer that is refused stays as it was.
@@ -189,7 +114,18 @@ impl<'a> Device for Bench<'a> {
         ensures meaning { Write (model (card self.old)) sector bytes.now result (model (card self.new)) }
         ensures exact { Stored (card self.old) sector bytes.now result (card self.new) }
     {
-        self.perform(sector, bytes)
+        self.admit(sector, bytes.len())?;
+        let fate = self.supply.take();
+        match fate {
+            Fate::Done | Fate::New => self.fill(sector, bytes),
+            Fate::Old => {}
+            Fate::Spoiled => self.flags[sector] = 1,
+        }
+        if fate == Fate::Done {
+            Ok(())
+        } else {
+            Err(DeviceFault::Power(self.origin))
+        }
     }
 
     fn barrier(&mut self) -> Result<(), DeviceFault>
@@ -211,26 +147,4 @@ impl<'a> Device for Bench<'a> {
         self.supply.on = true;
         Ok(())
     }
-}
-
-// Whether each code of the plan says what becomes of a write.
-fn known(plan: &[u8]) -> bool
-    ensures yes { T result → Known plan.now }
-    ensures no { Known plan.now → T result }
-{
-    for code in plan {
-        if *code > SPOILED {
-            return false;
-        }
-    }
-    true
-}
-
-// Puts `new` where sector `sector` stands in `all`.
-fn put(all: &mut [u8], sector: usize, new: &[u8])
-    requires { (128 * sector + 128 ≤ length all.old) × (length new.now ≡ 128) }
-    ensures { all.new ≡ put all.old sector new.now }
-{
-    let start = sector * SECTOR;
-    all[start..start + SECTOR].copy_from_slice(new);
 }

@@ -1,5 +1,4 @@
 -- Lemmas that every device may want.
 pub mod Membership
 pub mod Changes
-pub mod Sectors
 pub mod Plans

@@ -3,7 +3,7 @@
 #![tactic(auto)]
 
 ghost use Rattle.device.specs.Disk.{Disk};
-ghost use Rattle.device.specs.Meaning.{Admitted, Read, Write, Barrier, Restart, told_after};
+ghost use Rattle.device.specs.Meaning.{Admitted, Read, Write, Barrier, Restart};
 ghost use Rattle.std.specs.Prelude.{◌≡◌};
 
 mod fault;
@@ -37,6 +37,7 @@ pub trait Device {
 
 // The tests that come before any work on a sector: a device that is off answers that first, then a
 // sector that is not there or a buffer that doesn't fit is refused.
+// A struct of the first three is no plainer: each device would make one for this call alone.
 pub fn admit(
     on: bool,
     sectors: usize,
@@ -53,15 +54,4 @@ pub fn admit(
         return Err(DeviceFault::Misaddressed(sector, origin));
     }
     Ok(())
-}
-
-// The origin that a layer has told last, once a call below has answered so: where power failed in it,
-// the origin that is handed up; else the one told before.
-pub fn told_after(told: u8, answer: &Result<(), DeviceFault>) -> u8
-    ensures { result ≡ told_after told answer.now }
-{
-    match answer {
-        Err(DeviceFault::Power(origin)) => *origin,
-        _ => told,
-    }
 }

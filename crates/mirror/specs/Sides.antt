@@ -87,11 +87,3 @@ Worked work m (Err (Power o)) m' = Idle m o m' ⊎ ((m.on ≡ true) × (m'.on �
 Worked work m (Err (Misaddressed _ _)) m' = m' ≡ m
 Worked work m (Err Unfit) m' = ⊥
 Worked work m (Err (Spoiled s o)) m' = (m.on ≡ true) × (m'.on ≡ true) × (m'.told ≡ m.told) × work m (Err (Spoiled s o)) m'
-
--- Whether the mirror is on after this answer of its sides: only failing power turns it off.
-abbrev pub stays : Answer → Bool
-stays (Ok _) = true
-stays (Err (Power _)) = false
-stays (Err (Misaddressed _ _)) = true
-stays (Err Unfit) = true
-stays (Err (Spoiled _ _)) = true

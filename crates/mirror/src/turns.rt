@@ -1,117 +1,56 @@
-// Work on the two sides of a mirror in its order, and what the mirror is then as one device.
-ghost use Rattle.std.specs.Prelude.{◌≡◌, ℕ, ◌<◌, Bool, true, [], ◌∷◌, length};
-ghost use Rattle.device.specs.Meaning.{Read, Write, Barrier, Restart, told_after};
-ghost use Rattle.device.specs.Trace.{InTurn, wrote, settled, restarted};
-ghost use Rattle.mirror.specs.Sides.{sides, mirrored, Writes, Settles, Restarts, Reads, Worked, stays};
+// What a mirror does on its two sides, in its order.
 
+ghost use Rattle.std.specs.Prelude.{◌≡◌, length};
+ghost use Rattle.device.specs.Meaning.{Addressed};
+ghost use Rattle.mirror.specs.View.{view};
+ghost use Rattle.mirror.specs.Sides.{mirrored, Writes, Settles, Restarts, Reads};
+
+use crate::Mirror;
 use device::{Device, DeviceFault};
 
-// Whether the mirror is still on after this answer of its sides.
-pub(crate) fn powered(answer: &Result<(), DeviceFault>) -> bool
-    ensures { result ≡ stays answer.now }
-{
-    match answer {
-        Err(DeviceFault::Power(_)) => false,
-        _ => true,
+// One function with the steps as closures is no plainer than these: its contract would speak of what each step answers.
+impl<L: Device, R: Device> Mirror<L, R> {
+    // Writes a sector on the right side, settles it there, and only then writes it on the left.
+    pub(crate) fn write_in_turn(&mut self, sector: usize, bytes: &[u8]) -> Result<(), DeviceFault>
+        requires { Addressed (mirrored (view L.Device R.Device self.old)) sector (length bytes.now) }
+        ensures work { Writes sector bytes.now (view L.Device R.Device self.old) result (view L.Device R.Device self.new) }
+        ensures power { self.new.power ≡ self.old.power }
+    {
+        self.right.write(sector, bytes)?;
+        // Were the left touched before this, power could spoil the sector on both.
+        Device::barrier(&mut self.right)?;
+        self.left.write(sector, bytes)
     }
-}
 
-// Writes a sector on the first device, settles it there, and only then writes it on the second.
-fn write_in_turn<A: Device, B: Device>(
-    first: &mut A,
-    second: &mut B,
-    sector: usize,
-    bytes: &[u8],
-) -> Result<(), DeviceFault>
-    requires in_first { sector < (A.Device.disk first.old).plate.sectors }
-    requires in_second { sector < (B.Device.disk second.old).plate.sectors }
-    requires whole { length bytes.now ≡ 128 }
-    ensures { InTurn (A.Device.disk first.old) (wrote sector bytes.now ∷ settled ∷ []) (B.Device.disk second.old) (wrote sector bytes.now ∷ []) result (A.Device.disk first.new) (B.Device.disk second.new) }
-{
-    first.write(sector, bytes)?;
-    // Were the second touched before this, power could spoil the sector on both.
-    Device::barrier(first)?;
-    second.write(sector, bytes)
-}
-
-fn settle_in_turn<A: Device, B: Device>(first: &mut A, second: &mut B) -> Result<(), DeviceFault>
-    ensures { InTurn (A.Device.disk first.old) (settled ∷ []) (B.Device.disk second.old) (settled ∷ []) result (A.Device.disk first.new) (B.Device.disk second.new) }
-{
-    first.barrier()?;
-    second.barrier()
-}
-
-fn restart_in_turn<A: Device, B: Device>(first: &mut A, second: &mut B) -> Result<(), DeviceFault>
-    ensures { InTurn (A.Device.disk first.old) (restarted ∷ []) (B.Device.disk second.old) (restarted ∷ []) result (A.Device.disk first.new) (B.Device.disk second.new) }
-{
-    first.restart()?;
-    second.restart()
-}
-
-// Reads from the left side, or from the right one where the left is spoiled.
-fn ask_in_turn<L: Device, R: Device>(
-    left: &mut L,
-    right: &mut R,
-    sector: usize,
-    buffer: &mut [u8],
-) -> Result<(), DeviceFault>
-    requires in_left { sector < (L.Device.disk left.old).plate.sectors }
-    requires whole { length buffer.old ≡ 128 }
-    ensures { Reads sector buffer.old buffer.new (sides true 0 (L.Device.disk left.old) (R.Device.disk right.old)) result (sides true 0 (L.Device.disk left.new) (R.Device.disk right.new)) }
-{
-    match left.read(sector, buffer) {
-        Err(DeviceFault::Spoiled(_, _)) => right.read(sector, buffer),
-        answer => answer,
+    pub(crate) fn settle_in_turn(&mut self) -> Result<(), DeviceFault>
+        ensures work { Settles (view L.Device R.Device self.old) result (view L.Device R.Device self.new) }
+        ensures power { self.new.power ≡ self.old.power }
+    {
+        self.right.barrier()?;
+        self.left.barrier()
     }
-}
 
-// The four below do the same for a mirror's own two sides, and say what the mirror then is.
-pub(crate) fn write_both<L: Device, R: Device>(
-    left: &mut L,
-    right: &mut R,
-    sector: usize,
-    bytes: &[u8],
-) -> Result<(), DeviceFault>
-    requires in_left { sector < (L.Device.disk left.old).plate.sectors }
-    requires in_right { sector < (R.Device.disk right.old).plate.sectors }
-    requires whole { length bytes.now ≡ 128 }
-    ensures meaning { (on : Bool) (told : ℕ) → on ≡ true → Write (mirrored (sides on told (L.Device.disk left.old) (R.Device.disk right.old))) sector bytes.now result (mirrored (sides (stays result) (told_after told result) (L.Device.disk left.new) (R.Device.disk right.new))) }
-    ensures order { (on : Bool) (told : ℕ) → on ≡ true → Worked (Writes sector bytes.now) (sides on told (L.Device.disk left.old) (R.Device.disk right.old)) result (sides (stays result) (told_after told result) (L.Device.disk left.new) (R.Device.disk right.new)) }
-{
-    write_in_turn(right, left, sector, bytes)
-}
+    pub(crate) fn restart_in_turn(&mut self) -> Result<(), DeviceFault>
+        ensures work { Restarts (view L.Device R.Device self.old) result (view L.Device R.Device self.new) }
+        ensures power { self.new.power ≡ self.old.power }
+    {
+        self.right.restart()?;
+        self.left.restart()
+    }
 
-pub(crate) fn settle_both<L: Device, R: Device>(
-    left: &mut L,
-    right: &mut R,
-) -> Result<(), DeviceFault>
-    ensures meaning { (on : Bool) (told : ℕ) → on ≡ true → Barrier (mirrored (sides on told (L.Device.disk left.old) (R.Device.disk right.old))) result (mirrored (sides (stays result) (told_after told result) (L.Device.disk left.new) (R.Device.disk right.new))) }
-    ensures order { (on : Bool) (told : ℕ) → on ≡ true → Worked Settles (sides on told (L.Device.disk left.old) (R.Device.disk right.old)) result (sides (stays result) (told_after told result) (L.Device.disk left.new) (R.Device.disk right.new)) }
-{
-    settle_in_turn(right, left)
-}
-
-pub(crate) fn restart_both<L: Device, R: Device>(
-    left: &mut L,
-    right: &mut R,
-) -> Result<(), DeviceFault>
-    ensures meaning { (on : Bool) (told : ℕ) → Restart (mirrored (sides on told (L.Device.disk left.old) (R.Device.disk right.old))) result (mirrored (sides (stays result) (told_after told result) (L.Device.disk left.new) (R.Device.disk right.new))) }
-    ensures order { Restarts (sides true 0 (L.Device.disk left.old) (R.Device.disk right.old)) result (sides true 0 (L.Device.disk left.new) (R.Device.disk right.new)) }
-{
-    restart_in_turn(right, left)
-}
-
-pub(crate) fn read_either<L: Device, R: Device>(
-    left: &mut L,
-    right: &mut R,
-    sector: usize,
-    buffer: &mut [u8],
-) -> Result<(), DeviceFault>
-    requires in_left { sector < (L.Device.disk left.old).plate.sectors }
-    requires in_right { sector < (R.Device.disk right.old).plate.sectors }
-    requires whole { length buffer.old ≡ 128 }
-    ensures meaning { (on : Bool) (told : ℕ) → on ≡ true → Read (mirrored (sides on told (L.Device.disk left.old) (R.Device.disk right.old))) sector buffer.old result (mirrored (sides (stays result) (told_after told result) (L.Device.disk left.new) (R.Device.disk right.new))) buffer.new }
-    ensures order { (on : Bool) (told : ℕ) → on ≡ true → Worked (Reads sector buffer.old buffer.new) (sides on told (L.Device.disk left.old) (R.Device.disk right.old)) result (sides (stays result) (told_after told result) (L.Device.disk left.new) (R.Device.disk right.new)) }
-{
-    ask_in_turn(left, right, sector, buffer)
+    // Reads from the left side, or from the right one where the left is spoiled.
+    pub(crate) fn read_in_turn(
+        &mut self,
+        sector: usize,
+        buffer: &mut [u8],
+    ) -> Result<(), DeviceFault>
+        requires { Addressed (mirrored (view L.Device R.Device self.old)) sector (length buffer.old) }
+        ensures work { Reads sector buffer.old buffer.new (view L.Device R.Device self.old) result (view L.Device R.Device self.new) }
+        ensures power { self.new.power ≡ self.old.power }
+    {
+        match self.left.read(sector, buffer) {
+            Err(DeviceFault::Spoiled(_, _)) => self.right.read(sector, buffer),
+            answer => answer,
+        }
+    }
 }

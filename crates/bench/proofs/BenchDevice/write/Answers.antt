@@ -1,11 +1,6 @@
--- What a write left is what a write means.
-use Rattle.bench.specs.Card.{card}
-use Rattle.bench.proofs.Meant.{written}
+-- Power that fails in a write leaves what a torn write may leave.
+use Rattle.std.proofs.Common.{rules, inr}
 use Rattle.bench.proofs.BenchDevice.write.Goals as goal
 
-pub returns : goal.returns
-returns c =
-    record {
-      meaning = written (card c.args.self.now) c.args.sector c.args.bytes.now c.perform.result (card c.perform.new.self) c.perform.ensures;
-      exact = c.perform.ensures;
-    }
+pub returns-else-eq-clause-meaning : goal.returns-else-eq-clause-meaning
+returns-else-eq-clause-meaning c = inr (search rules)

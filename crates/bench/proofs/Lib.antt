@@ -1,2 +1,0 @@
--- Lemmas that the proofs of the calls share.
-mod Meant
