@@ -11,7 +11,7 @@ use Rattle.cache.specs.declared.held.Slot.{Slot}
 use Rattle.cache.specs.Held.{slot, kept, is_held}
 use Rattle.cache.specs.State.{State, laid, over, plate_over, disk_of}
 use Rattle.cache.specs.Exact.{sends, Asked, FromHeld, FromBelow, Reads, Rewrote, Took, Displaced, NotDisplaced, Writes, Restarts}
-use Rattle.cache.specs.Steps.{SentOne, SendsOne}
+use Rattle.cache.specs.Steps.{Room, MakesRoom}
 use Rattle.cache.proofs.Overlay as lay
 
 -- a cache by its parts
@@ -146,10 +146,7 @@ not_displaced c c' s b o w =
       there = λ x st. inl (old s x st);
     }
 
--- How there came to be room for one more: there was, or the longest held sector was sent down.
-abbrev pub Room : State → State → Type 0
-Room c m = ((length c.held < 8) × (m ≡ c)) ⊎ ((8 ≤ length c.held) × SentOne c m)
-
+-- a sector is taken in, once there is room for it, or could not be
 pub room_plate : (c m : State) → Room c m → m.below.plate ≡ c.below.plate
 room_plate c m (inl (room, same)) = ap (λ (x : State). x.below.plate) same
 room_plate c m (inr (full, one)) = one.below.plate
@@ -184,9 +181,9 @@ pushed c m s b h a k (inr (full, one)) e =
     } in
     (displaced c (record m { held = h }) s b w, inr (inr w))
 
-pub not_pushed : (c c' : State) (s : ℕ) (b : List ℕ) (f : DeviceFault) → Asked c s (length b) → is_held s c.held ≡ false → 8 ≤ length c.held → SendsOne c (Err f) c'
+pub not_pushed : (c c' : State) (s : ℕ) (b : List ℕ) (f : DeviceFault) → Asked c s (length b) → is_held s c.held ≡ false → MakesRoom c (Err f) c'
     → Write (disk_of c) s b (Err f) (disk_of c') × Writes c s b (Err f) c'
-not_pushed c c' s b (Power o) a k full n =
+not_pushed c c' s b (Power o) a k (full, n) =
     let w : NotDisplaced c s b o c' =
     record {
       asked = a;
@@ -201,9 +198,9 @@ not_pushed c c' s b (Power o) a k full n =
       told = n.told;
     } in
     (inr (not_displaced c c' s b o w), inr w)
-not_pushed c c' s b (Misaddressed _ _) a k full n = absurd n
-not_pushed c c' s b Unfit a k full n = absurd n
-not_pushed c c' s b (Spoiled _ _) a k full n = absurd n
+not_pushed c c' s b (Misaddressed _ _) a k n = absurd n
+not_pushed c c' s b Unfit a k n = absurd n
+not_pushed c c' s b (Spoiled _ _) a k n = absurd n
 
 -- a restart below, whatever was held
 pub restarts : (c c' : State) (r : Answer) → Restarts c r c' → Restart (disk_of c) r (disk_of c')

@@ -1,5 +1,5 @@
--- How a cache sends the longest held sector down.
-use Rattle.std.specs.Prelude.{◌≡◌, ℕ, true, false, List, ◌∷◌, Ok, Err}
+-- How a cache sends the longest held sector down, and makes room for one more.
+use Rattle.std.specs.Prelude.{◌≡◌, ℕ, ◌<◌, ◌≤◌, true, false, ◌⊎◌, List, ◌∷◌, length, Ok, Err}
 use Rattle.device.specs.declared.fault.DeviceFault.TheVariants.{Power, Misaddressed, Unfit, Spoiled}
 use Rattle.device.specs.Meaning.{Answer, Wrote}
 use Rattle.device.specs.Trace.{Cut}
@@ -31,3 +31,14 @@ SendsOne c (Err (Power o)) c' = NotSent c o c'
 SendsOne c (Err (Misaddressed _ _)) c' = ⊥
 SendsOne c (Err Unfit) c' = ⊥
 SendsOne c (Err (Spoiled _ _)) c' = ⊥
+
+-- There is room for one more: there was, or the longest held sector was sent down.
+abbrev pub Room : State → State → Type 0
+Room c c' = ((length c.held < 8) × (c' ≡ c)) ⊎ ((8 ≤ length c.held) × SentOne c c')
+
+abbrev pub MakesRoom : State → Answer → State → Type 0
+MakesRoom c (Ok _) c' = Room c c'
+MakesRoom c (Err (Power o)) c' = (8 ≤ length c.held) × NotSent c o c'
+MakesRoom c (Err (Misaddressed _ _)) c' = ⊥
+MakesRoom c (Err Unfit) c' = ⊥
+MakesRoom c (Err (Spoiled _ _)) c' = ⊥

@@ -21,12 +21,12 @@ pub struct Cache<D: Device> {
     below: D,
     held: ArrayVec<Slot, SLOTS>,
     power: Power,
-    ghost sound: { Fits (D.Device.disk below) held.items } by { Fits-prop (D.Device.disk below) held.items },
+    pub ghost sound: { Fits (D.Device.disk below) held.items } by { Fits-prop (D.Device.disk below) held.items },
 }
 
 impl<D: Device> Cache<D> {
     ghost use Rattle.cache.specs.State.{state};
-    ghost use Rattle.cache.specs.Steps.{SendsOne};
+    ghost use Rattle.cache.specs.Steps.{SendsOne, MakesRoom};
 
     // A cache over this device that is on and holds nothing.
     pub fn new(below: D) -> Self
@@ -51,6 +51,16 @@ impl<D: Device> Cache<D> {
         self.power
             .hand_up(self.below.write(oldest.sector, &oldest.bytes))?;
         self.held.remove(0);
+        Ok(())
+    }
+
+    // Sends the longest held sector down where there is no room for one more.
+    fn make_room(&mut self) -> Result<(), DeviceFault>
+        ensures { MakesRoom (state self.old) result (state self.new) }
+    {
+        if self.held.is_full() {
+            self.send_one()?;
+        }
         Ok(())
     }
 }
@@ -91,9 +101,7 @@ impl<D: Device> Device for Cache<D> {
             held::rewrite(&mut self.held, slot);
             return Ok(());
         }
-        if self.held.is_full() {
-            self.send_one()?;
-        }
+        self.make_room()?;
         self.held.push(slot);
         Ok(())
     }

@@ -1,6 +1,5 @@
 -- A write of a held sector, or of one that is taken in, once there is room.
 use Rattle.std.proofs.Common.{◌≡◌, ◌<◌, ◌≤◌, false, true, ◌++◌, ◌∷◌, [], length, sym, refl, ap, ◌∙◌, inl, inr, arith, rules}
-use Rattle.std.proofs.lemmas.Bool.{eqb-true, eqb-false}
 use Rattle.std.proofs.lemmas.Result.{err_from_is_err_and}
 use Rattle.device.proofs.Changes.{still_addressed}
 use Rattle.cache.specs.declared.held.Slot.{Slot}
@@ -8,10 +7,8 @@ use Rattle.cache.specs.Held.{slot, is_held, rewritten}
 use Rattle.cache.specs.Exact.{Rewrote}
 use Rattle.cache.specs.State.{state}
 use Rattle.cache.proofs.Slots.{fits_rewritten, fits_push}
-use Rattle.cache.proofs.Calls.{made, asked, Room, room_plate, rewrote, pushed, not_pushed}
-use Rattle.cache.proofs.CacheDevice.write.Given.{Over}
+use Rattle.cache.proofs.Calls.{made, asked, room_plate, rewrote, pushed, not_pushed}
 use Rattle.cache.proofs.CacheDevice.write.Goals as goal
-use Rattle.cache.proofs.CacheDevice.write.Goals.{After-push, then-is_full+in_ok-send_one, else-is_full}
 
 pub invariant_of-self : goal.invariant_of-self
 invariant_of-self g c =
@@ -30,45 +27,32 @@ returns-then-is_some g c =
     let w : Rewrote s c.args.sector b t = record { asked = a; found = found; below = refl; turns = turns; on = a.on; told = refl } in
     record { meaning = rewrote s t c.args.sector b w; exact = inl w }
 
-pub returns-in_err-send_one : goal.returns-in_err-send_one
-returns-in_err-send_one g c =
+pub returns-in_err-make_room : goal.returns-in_err-make_room
+returns-in_err-make_room g c =
     let s = state c.args.self.now in
     let b = c.args.bytes.now in
     let a = asked s _ c.args.sector (length b) c.sectors.ensures.exact c.in_ok-admit.ensures in
     let absent : is_held c.args.sector s.held ≡ false = search rules in
-    let full : 8 ≤ length s.held = omega (arith, eqb-true (length s.held) 8 (sym c.is_full.ensures.value ∙ c.if-is_full.true)) in
-    let both = not_pushed s (state c.send_one.new.self) c.args.sector b c.in_err-send_one.field-0.0 a absent full c.in_err-send_one.ensures in
-    let p = err_from_is_err_and c.from_residual-in_err-send_one.result c.from_residual-in_err-send_one.ensures.1 in
+    let both = not_pushed s (state c.make_room.new.self) c.args.sector b c.in_err-make_room.field-0.0 a absent c.in_err-make_room.ensures in
+    let p = err_from_is_err_and c.from_residual-in_err-make_room.result c.from_residual-in_err-make_room.ensures.1 in
     rw (p.1, p.2) (record { meaning = both.0; exact = both.1 })
-
-room : (g : Over) (c : After-push g) → Room (state c.args.self.now) (state c.if-is_full.self)
-room g c =
-    let n = length c.args.self.now.held.items in
-    elim c.if-is_full.branch [
-      | then-is_full+in_ok-send_one w ↦
-          let full : 8 ≤ n = omega (arith, eqb-true n 8 (sym c.is_full.ensures.value ∙ w.if-is_full.true)) in
-          inr (full, rw w.self-is w.in_ok-send_one.ensures)
-      | else-is_full w ↦
-          let room : n < 8 = omega (arith, eqb-false n 8 (sym c.is_full.ensures.value ∙ w.if-is_full.false)) in
-          inl (room, ap state w.self-is)
-    ]
 
 pub invariant_of-self-2 : goal.invariant_of-self-2
 invariant_of-self-2 g c =
     let s = state c.args.self.now in
-    let m = state c.if-is_full.self in
+    let m = state c.make_room.new.self in
     let b = c.args.bytes.now in
     let a = asked s _ c.args.sector (length b) c.sectors.ensures.exact c.in_ok-admit.ensures in
-    let there = still_addressed s.below m.below c.args.sector (length b) (room_plate s m (room g (goal.at.invariant_of-self-2 g c).After-push)) a.addressed in
-    record { sound = rw (c.push.ensures.items, c.new-slot.ensures) (fits_push m.below m.held (slot c.args.sector b) there c.if-is_full.self.sound) }
+    let there = still_addressed s.below m.below c.args.sector (length b) (room_plate s m c.in_ok-make_room.ensures) a.addressed in
+    record { sound = rw (c.push.ensures.items, c.new-slot.ensures) (fits_push m.below m.held (slot c.args.sector b) there c.make_room.new.self.sound) }
 
 pub returns : goal.returns
 returns g c =
     let s = state c.args.self.now in
-    let m = state c.if-is_full.self in
+    let m = state c.make_room.new.self in
     let b = c.args.bytes.now in
     let a = asked s _ c.args.sector (length b) c.sectors.ensures.exact c.in_ok-admit.ensures in
     let absent : is_held c.args.sector s.held ≡ false = search rules in
     let e : c.push.new.self.items ≡ m.held ++ slot c.args.sector b ∷ [] = c.push.ensures.items ∙ ap (λ l. m.held ++ l ∷ []) c.new-slot.ensures in
-    let both = pushed s m c.args.sector b c.push.new.self.items a absent (room g (goal.at.returns g c).After-push) e in
+    let both = pushed s m c.args.sector b c.push.new.self.items a absent c.in_ok-make_room.ensures e in
     record { meaning = both.0; exact = both.1 }
