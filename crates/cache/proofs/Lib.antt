@@ -1,6 +1,5 @@
 -- The lemmas behind the cache.
-mod Rings
-mod Lines
+mod Slots
 mod Overlay
 mod Calls
 mod Sending

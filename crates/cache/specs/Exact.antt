@@ -1,32 +1,25 @@
 -- What a cache does in each call, on every way out: what it holds after it, in which turn, and what it did below.
-use Rattle.std.specs.Prelude.{◌≡◌, ℕ, ◌<◌, ◌≤◌, Bool, true, false, ◌≢◌, ◌⊎◌, List, [], ◌∷◌, ◌++◌, map, length, Some, Ok, Err}
+use Rattle.std.specs.Prelude.{◌≡◌, ℕ, ◌<◌, ◌≤◌, true, false, ◌≢◌, ◌⊎◌, List, [], ◌∷◌, ◌++◌, map, length, Some, Ok, Err}
 use Rattle.device.specs.declared.fault.DeviceFault.TheVariants.{Power, Misaddressed, Unfit, Spoiled}
 use Rattle.device.specs.Disk.{Disk}
-use Rattle.device.specs.Meaning.{Answer, Addressed, Read, Restart, told_after}
+use Rattle.device.specs.Meaning.{Answer, Addressed, Read, Restart, on_after, told_after}
 use Rattle.device.specs.Trace.{Act, wrote, settled, Cut, Done, Tries}
-use Rattle.cache.specs.Line.{Line, line, kept, is_held, rewritten}
-use Rattle.cache.specs.State.{State, Fits, Sound}
+use Rattle.cache.specs.declared.held.Slot.{Slot}
+use Rattle.cache.specs.Held.{slot, kept, is_held, rewritten}
+use Rattle.cache.specs.State.{State}
 
 -- A held sector is sent down: it is written below.
-abbrev pub sends : Line → Act
+abbrev pub sends : Slot → Act
 sends l = wrote l.sector l.bytes
 
 -- All held sectors are sent down in turn, and then a barrier is made below.
-abbrev pub empties : List Line → List Act
+abbrev pub empties : List Slot → List Act
 empties ls = map sends ls ++ settled ∷ []
 
 -- The first of these calls.
-abbrev pub next : List Line → Act
+abbrev pub next : List Slot → Act
 next [] = settled
 next (l ∷ _) = sends l
-
--- Whether the cache is on after a call below that answered so.
-abbrev pub on_after : Answer → Bool
-on_after (Ok _) = true
-on_after (Err (Power _)) = false
-on_after (Err (Misaddressed _ _)) = true
-on_after (Err Unfit) = true
-on_after (Err (Spoiled _ _)) = true
 
 -- The cache was off, and did nothing.
 pub record StayedOff (c : State) (o : ℕ) (c' : State) : Type 0 where
@@ -84,7 +77,7 @@ pub record Took (c : State) (s : ℕ) (bytes : List ℕ) (c' : State) : Type 0 w
   pub absent : is_held s c.held ≡ false
   pub room : length c.held < 8
   pub below : c'.below ≡ c.below
-  pub turns : c'.held ≡ c.held ++ line s bytes ∷ []
+  pub turns : c'.held ≡ c.held ++ slot s bytes ∷ []
   pub on : c'.on ≡ true
   pub told : c'.told ≡ c.told
 
@@ -93,11 +86,11 @@ pub record Displaced (c : State) (s : ℕ) (bytes : List ℕ) (c' : State) : Typ
   pub asked : Asked c s (length bytes)
   pub absent : is_held s c.held ≡ false
   pub full : 8 ≤ length c.held
-  pub oldest : Line
-  pub rest : List Line
+  pub oldest : Slot
+  pub rest : List Slot
   pub held : c.held ≡ oldest ∷ rest
   pub below : Tries c.below (sends oldest ∷ []) (Ok tt) c'.below
-  pub turns : c'.held ≡ rest ++ line s bytes ∷ []
+  pub turns : c'.held ≡ rest ++ slot s bytes ∷ []
   pub on : c'.on ≡ true
   pub told : c'.told ≡ c.told
 
@@ -106,10 +99,10 @@ pub record NotDisplaced (c : State) (s : ℕ) (bytes : List ℕ) (o : ℕ) (c' :
   pub asked : Asked c s (length bytes)
   pub absent : is_held s c.held ≡ false
   pub full : 8 ≤ length c.held
-  pub oldest : Line
-  pub rest : List Line
+  pub oldest : Slot
+  pub rest : List Slot
   pub held : c.held ≡ oldest ∷ rest
-  pub below : Sound c → Tries c.below (sends oldest ∷ []) (Err (Power o)) c'.below
+  pub below : Tries c.below (sends oldest ∷ []) (Err (Power o)) c'.below
   pub turns : c'.held ≡ c.held
   pub off : c'.on ≡ false
   pub told : c'.told ≡ o
@@ -130,18 +123,17 @@ pub record Emptied (c : State) (c' : State) : Type 0 where
   pub told : c'.told ≡ c.told
 
 -- Some held sectors were sent down, and the next call below was cut by power: the others are left.
--- (That it was power rests on the others being sectors of the disk, as all are in a sound cache.)
-pub record CutOff (below : Disk) (held : List Line) (o : ℕ) (below' : Disk) (left : List Line) : Type 0 where
-  pub sent : List Line
+pub record CutOff (below : Disk) (held : List Slot) (o : ℕ) (below' : Disk) (left : List Slot) : Type 0 where
+  pub sent : List Slot
   pub between : Disk
   pub split : held ≡ sent ++ left
   pub done : Done below (map sends sent) between
-  pub cut : Fits between left → Cut (next left) between o below'
+  pub cut : Cut (next left) between o below'
 
 -- Power failed in a barrier: those not yet sent down are still held.
 pub record NotEmptied (c : State) (o : ℕ) (c' : State) : Type 0 where
   pub was_on : c.on ≡ true
-  pub below : Sound c → Tries c.below (empties c.held) (Err (Power o)) c'.below
+  pub below : Tries c.below (empties c.held) (Err (Power o)) c'.below
   pub turns : CutOff c.below c.held o c'.below c'.held
   pub off : c'.on ≡ false
   pub told : c'.told ≡ o

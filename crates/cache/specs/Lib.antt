@@ -1,5 +1,4 @@
 -- What a write cache holds, what it shows, and what it does in each call.
-pub mod Line
 pub mod Held
 pub mod State
 pub mod Exact

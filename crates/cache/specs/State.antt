@@ -1,26 +1,25 @@
 -- A cache over a device, and the disk that it shows.
-use Rattle.std.specs.Prelude.{ℕ, Bool, cond, List, [], ◌∷◌, length, ◌==◌}
+use Rattle.std.specs.Prelude.{ℕ, Bool, cond, List, [], ◌∷◌, ◌==◌}
 use Rattle.device.specs.Disk.{Disk, Plate, spoiled, holds}
-use Rattle.device.specs.Meaning.{Addressed}
+use Rattle.device.specs.declared.Device.{Ghosts}
 use Rattle.cache.specs.declared.Cache.{Cache}
-use Rattle.cache.specs.Line.{Line}
-use Rattle.cache.specs.Held.{in_turn}
+use Rattle.cache.specs.declared.held.Slot.{Slot}
 
 -- The disk below, the held sectors, the longest held first, whether the cache is on, and the origin
 -- that it told last.
 pub record State : Type 0 where
   pub below : Disk
-  pub held : List Line
+  pub held : List Slot
   pub on : Bool
   pub told : ℕ
 
--- The state of a cache, by what shows the disk of the device below.
-abbrev pub state : {D : Type 0} → (D → Disk) → Cache D → State
-state disk c = record { below = disk c.below; held = in_turn c.held; on = c.on; told = c.told }
+-- The state of a cache.
+abbrev pub state : {D : Type 0} {d : Ghosts D} → Cache D d → State
+state {d = d} c = record { below = d.disk c.below; held = c.held.items; on = c.power.on; told = c.power.told }
 
 -- A disk with a held sector laid over it: the sector shows the held bytes, and spoiled or what may
 -- stand below may stand there too, since the bytes are yet to be written.
-abbrev pub laid : Disk → Line → Disk
+abbrev pub laid : Disk → Slot → Disk
 laid d l = record {
   plate = d.plate;
   on = d.on;
@@ -30,7 +29,7 @@ laid d l = record {
 }
 
 -- A disk with all the held sectors laid over it, the longest held first.
-abbrev pub over : Disk → List Line → Disk
+abbrev pub over : Disk → List Slot → Disk
 over d [] = d
 over d (l ∷ ls) = over (laid d l) ls
 
@@ -47,12 +46,3 @@ disk_of c = record {
   others = (over c.below c.held).others;
   told = c.told;
 }
-
--- Every held sector is one of the disk's.
-abbrev pub Fits : Disk → List Line → Type 0
-Fits d [] = Unit {0}
-Fits d (l ∷ ls) = Addressed d l.sector (length l.bytes) × Fits d ls
-
--- A cache that holds only sectors of the disk below it. So is a new one, and no call changes that.
-abbrev pub Sound : State → Type 0
-Sound c = Fits c.below c.held

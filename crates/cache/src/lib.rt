@@ -2,105 +2,128 @@
 
 #![tactic(auto)]
 
-ghost use Rattle.cache.specs.Exact.{Reads, Writes, Barriers, Restarts};
-ghost use Rattle.cache.specs.Held.{in_turn};
-ghost use Rattle.cache.specs.State.{state, disk_of, Sound};
-ghost use Rattle.device.specs.Meaning.{Read, Write, Barrier, Restart};
-ghost use Rattle.std.specs.Prelude.{◌≡◌, true, []};
+ghost use Rattle.cache.specs.Held.{Fits, Fits-prop};
+ghost use Rattle.std.specs.Prelude.{◌≡◌, ◌<◌, true, [], length};
 
 mod held;
-mod steps;
 
-use device::{Device, DeviceFault};
-use held::{Held, SLOTS};
+use arrayvec::ArrayVec;
+use device::{Device, DeviceFault, Power};
+use held::{SLOTS, Slot};
 
 // The origin that a layer tells where it refuses a call itself, or is off.
 const ORIGIN: u8 = 0;
 
-// The device below, the sectors that are held back from it, and whether the cache is on.
+// The device below, the sectors that are held back from it, the longest held first, and what is known
+// of the power below. It holds only sectors of that device.
 #[derive(Drop)]
-pub struct Cache<D> {
+pub struct Cache<D: Device> {
     below: D,
-    held: Held,
-    on: bool,
-    // The origin handed up where power failed last.
-    told: u8,
+    held: ArrayVec<Slot, SLOTS>,
+    power: Power,
+    pub ghost sound: { Fits (D.Device.disk below) held.items } by { Fits-prop (D.Device.disk below) held.items },
 }
 
 impl<D: Device> Cache<D> {
+    ghost use Rattle.cache.specs.State.{state};
+    ghost use Rattle.cache.specs.Steps.{SendsOne, MakesRoom};
+
     // A cache over this device that is on and holds nothing.
     pub fn new(below: D) -> Self
         ensures below { result.below ≡ below }
-        ensures held { in_turn result.held ≡ [] }
-        ensures on { result.on ≡ true }
-        ensures told { result.told ≡ 0 }
-        ensures sound { Sound (state D.Device.disk result) }
+        ensures held { result.held.items ≡ [] }
+        ensures on { result.power.on ≡ true }
+        ensures told { result.power.told ≡ 0 }
     {
         Cache {
             below,
-            held: Held::new(),
-            on: true,
-            told: 0,
+            held: ArrayVec::new(),
+            power: Power::new(),
         }
+    }
+
+    // Sends the longest held sector down; it stays held where power fails.
+    fn send_one(&mut self) -> Result<(), DeviceFault>
+        requires { 0 < length self.old.held.items }
+        ensures { SendsOne (state self.old) result (state self.new) }
+    {
+        let oldest = &self.held[0];
+        self.power
+            .hand_up(self.below.write(oldest.sector, &oldest.bytes))?;
+        self.held.remove(0);
+        Ok(())
+    }
+
+    // Sends the longest held sector down where there is no room for one more.
+    fn make_room(&mut self) -> Result<(), DeviceFault>
+        ensures { MakesRoom (state self.old) result (state self.new) }
+    {
+        if self.held.is_full() {
+            self.send_one()?;
+        }
+        Ok(())
     }
 }
 
 impl<D: Device> Device for Cache<D> {
-    ghost disk = { λ c. disk_of (state D.Device.disk c) };
+    ghost use Rattle.cache.specs.Exact.{Reads, Writes, Barriers, Restarts};
+    ghost use Rattle.cache.specs.State.{state, disk_of};
+    ghost use Rattle.device.specs.Meaning.{Read, Write, Barrier, Restart};
+
+    ghost disk = { λ c. disk_of (state c) };
 
     fn sectors(&self) -> usize
-        ensures meaning { result ≡ (disk_of (state D.Device.disk self.now)).plate.sectors }
+        ensures meaning { result ≡ (disk_of (state self.now)).plate.sectors }
         ensures exact { result ≡ (D.Device.disk self.now.below).plate.sectors }
     {
         self.below.sectors()
     }
 
     fn read(&mut self, sector: usize, buffer: &mut [u8]) -> Result<(), DeviceFault>
-        ensures meaning { Read (disk_of (state D.Device.disk self.old)) sector buffer.old result (disk_of (state D.Device.disk self.new)) buffer.new }
-        ensures exact { Reads (state D.Device.disk self.old) sector buffer.old result (state D.Device.disk self.new) buffer.new }
-        ensures sound { Sound (state D.Device.disk self.old) → Sound (state D.Device.disk self.new) }
+        ensures meaning { Read (disk_of (state self.old)) sector buffer.old result (disk_of (state self.new)) buffer.new }
+        ensures exact { Reads (state self.old) sector buffer.old result (state self.new) buffer.new }
     {
-        device::admit(self.on, self.sectors(), ORIGIN, sector, buffer.len())?;
-        if self.read_held(sector, buffer) {
+        device::admit(self.power.on, self.sectors(), ORIGIN, sector, buffer.len())?;
+        if let Some(slot) = held::find(self.held.as_slice(), sector) {
+            buffer.copy_from_slice(&slot.bytes);
             return Ok(());
         }
-        self.read_below(sector, buffer)
+        self.power.hand_up(self.below.read(sector, buffer))
     }
 
     fn write(&mut self, sector: usize, bytes: &[u8]) -> Result<(), DeviceFault>
-        ensures meaning { Write (disk_of (state D.Device.disk self.old)) sector bytes.now result (disk_of (state D.Device.disk self.new)) }
-        ensures exact { Writes (state D.Device.disk self.old) sector bytes.now result (state D.Device.disk self.new) }
-        ensures sound { Sound (state D.Device.disk self.old) → Sound (state D.Device.disk self.new) }
+        ensures meaning { Write (disk_of (state self.old)) sector bytes.now result (disk_of (state self.new)) }
+        ensures exact { Writes (state self.old) sector bytes.now result (state self.new) }
     {
-        device::admit(self.on, self.sectors(), ORIGIN, sector, bytes.len())?;
-        if self.held.has(sector) {
-            self.rewrite(sector, bytes);
+        device::admit(self.power.on, self.sectors(), ORIGIN, sector, bytes.len())?;
+        let slot = Slot::new(sector, bytes);
+        if held::find(self.held.as_slice(), sector).is_some() {
+            held::rewrite(&mut self.held, slot);
             return Ok(());
         }
-        if self.held.len() < SLOTS {
-            self.take(sector, bytes);
-            return Ok(());
-        }
-        self.displace(sector, bytes)
+        self.make_room()?;
+        self.held.push(slot);
+        Ok(())
     }
 
     fn barrier(&mut self) -> Result<(), DeviceFault>
-        ensures meaning { Barrier (disk_of (state D.Device.disk self.old)) result (disk_of (state D.Device.disk self.new)) }
-        ensures exact { Barriers (state D.Device.disk self.old) result (state D.Device.disk self.new) }
-        ensures sound { Sound (state D.Device.disk self.old) → Sound (state D.Device.disk self.new) }
+        ensures meaning { Barrier (disk_of (state self.old)) result (disk_of (state self.new)) }
+        ensures exact { Barriers (state self.old) result (state self.new) }
     {
-        if !self.on {
+        if !self.power.on {
             return Err(DeviceFault::Power(ORIGIN));
         }
-        self.empty()
+        while !self.held.is_empty() {
+            self.send_one()?;
+        }
+        self.power.hand_up(self.below.barrier())
     }
 
     fn restart(&mut self) -> Result<(), DeviceFault>
-        ensures meaning { Restart (disk_of (state D.Device.disk self.old)) result (disk_of (state D.Device.disk self.new)) }
-        ensures exact { Restarts (state D.Device.disk self.old) result (state D.Device.disk self.new) }
-        ensures sound { Sound (state D.Device.disk self.new) }
+        ensures meaning { Restart (disk_of (state self.old)) result (disk_of (state self.new)) }
+        ensures exact { Restarts (state self.old) result (state self.new) }
     {
         self.held.clear();
-        self.restart_below()
+        self.power.hand_up(self.below.restart())
     }
 }
