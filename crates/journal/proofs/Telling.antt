@@ -2,7 +2,7 @@
 use Rattle.std.proofs.Common.{◌≡◌, ℕ, ◌+◌, ◌-◌, ◌%◌, ◌^◌, ◌<◌, ◌≤◌, cond, eqb, ltb, List, length, get_or, Some, None, Ok, Err, Option, Result, sym, refl, ap, ◌∙◌, subst, ⊎_elim, mod-lt, arith}
 use Rattle.std.proofs.lemmas.List.{get_or_past}
 use Rattle.std.proofs.lemmas.Option.{none-some}
-use Rattle.std.proofs.lemmas.Bool.{cases_lt, cases_eq, eqb-true, eq-eqb, ne_eqb, lt-ltb, cond-true, cond-false, cond_both}
+use Rattle.std.proofs.lemmas.Bool.{cases_lt, cases_eq, eqb-true, eq-eqb, ne_eqb, lt-ltb, le-ltb, cond-true, cond-false}
 use Rattle.device.specs.Disk.{Shown}
 use Rattle.record.specs.Entry.{Entry}
 use Rattle.record.specs.declared.Head.{Head}
@@ -14,7 +14,7 @@ use Rattle.journal.specs.Log.{nothing, said, if_serial, log}
 use Rattle.journal.specs.Notes.{kind_of_note, Tells, Notes, Noted, if_noted}
 use Rattle.journal.specs.Opening.{Here, Names, Runs, Covers, HasNoLog}
 use Rattle.journal.specs.Survey.{by_serial, Bare, NamesLow, Ended, Whole, Analysis, Analysed, Surveyed, Surveys}
-use Rattle.journal.proofs.Places.{sound, no_places, at_place, in_log, kept}
+use Rattle.journal.proofs.Places.{sound, no_places, serial_here, serial_else, serial_nothing, at_place, in_log, kept}
 use Rattle.journal.proofs.Steps.{kind_some}
 
 -- a note, and the record that it tells of
@@ -32,31 +32,31 @@ has_note e (Some x) h k = (x, refl, h)
 
 -- the note found by a serial tells of the record found by it
 
-if_nothing : (s : ℕ) → if_serial s nothing ≡ nothing
-if_nothing s = cond_both (eqb 0 s) nothing nothing (λ (x : Entry). x ≡ nothing) (λ _. refl) (λ _. refl)
-
--- Where the record with serial s may stand, this is its note.
-abbrev picked : ℕ → Option Note → Option Note
-picked s o = cond (ltb s (2 ^ 63)) (if_noted s o) None
-
-none_picked : (s : ℕ) → picked s None ≡ None
-none_picked s = cond_both (ltb s (2 ^ 63)) None None (λ (o : Option Note). o ≡ None) (λ _. refl) (λ _. refl)
-
-pick : (s : ℕ) (e : Entry) (o : Option Note) → Notes e o → (1 ≤ e.kind → e.serial < 2 ^ 63) → Notes (if_serial s e) (picked s o)
-pick s e None h bound =
-    subst (Notes (if_serial s e)) (sym (none_picked s)) (ap (if_serial s) h ∙ if_nothing s)
-pick s e (Some x) h bound =
+pub serial_noted : (s : ℕ) (e : Entry) (o : Option Note) → Notes e o → Notes (if_serial s e) (if_noted s o)
+serial_noted s e None h = serial_nothing s e h
+serial_noted s e (Some x) h =
     ⊎_elim
     (λ same.
-    let lt : s < 2 ^ 63 = omega (arith, bound (omega (arith, h.kind, kind_some x.kind)), h.serial, same) in
-    let note-is = cond-true (ltb s (2 ^ 63)) (if_noted s (Some x)) None (lt-ltb s (2 ^ 63) lt) ∙ cond-true (eqb x.head.serial s) (Some x) None (eq-eqb x.head.serial s same) in
-    let entry-is = cond-true (eqb e.serial s) e nothing (eq-eqb e.serial s (sym h.serial ∙ same)) in
+    let note-is = cond-true (eqb x.head.serial s) (Some x) None (eq-eqb x.head.serial s same) in
+    let entry-is = serial_here s e e refl (sym h.serial ∙ same) in
     subst (Notes (if_serial s e)) (sym note-is) (subst (λ (d : Entry). Tells d x) (sym entry-is) h))
     (λ other.
     let note-is = cond-false (eqb x.head.serial s) (Some x) None (ne_eqb x.head.serial s other) in
-    let entry-is = cond-false (eqb e.serial s) e nothing (ne_eqb e.serial s (λ q. other (h.serial ∙ q))) in
-    subst (Notes (if_serial s e)) (sym (ap (λ (o : Option Note). cond (ltb s (2 ^ 63)) o None) note-is ∙ none_picked s)) entry-is)
+    subst (Notes (if_serial s e)) (sym note-is) (serial_else s e e refl (λ q. other (h.serial ∙ q))))
     (cases_eq x.head.serial s)
+
+-- no record has a serial past the last
+past : (s : ℕ) (e : Entry) (o : Option Note) → Notes e o → (1 ≤ e.kind → e.serial < 2 ^ 63) → 2 ^ 63 ≤ s → if_serial s e ≡ nothing
+past s e None h bound ge = serial_nothing s e h
+past s e (Some x) h bound ge =
+    serial_else s e e refl (λ q. omega (arith, bound (omega (arith, h.kind, kind_some x.kind))))
+
+pick : (s : ℕ) (e : Entry) (o : Option Note) → Notes e o → (1 ≤ e.kind → e.serial < 2 ^ 63) → Notes (if_serial s e) (cond (ltb s (2 ^ 63)) (if_noted s o) None)
+pick s e o h bound =
+    ⊎_elim
+    (λ lt. subst (Notes (if_serial s e)) (sym (cond-true (ltb s (2 ^ 63)) (if_noted s o) None (lt-ltb s (2 ^ 63) lt))) (serial_noted s e o h))
+    (λ ge. subst (Notes (if_serial s e)) (sym (cond-false (ltb s (2 ^ 63)) (if_noted s o) None (le-ltb s (2 ^ 63) ge))) (past s e o h bound ge))
+    (cases_lt s (2 ^ 63))
 
 module _ (n : ℕ) (shows : ℕ → Shown) (notes : List (Option Note)) (noted : Noted n shows notes) where
   at_none : (s : ℕ) → n ≡ 0 → Notes (said n (s % n) (shows (s % n))) (get_or notes (s % length notes) None)

@@ -8,7 +8,7 @@ ghost use Rattle.std.specs.Prelude.{◌≡◌};
 use record::{Head, Record};
 
 // The number of bytes in a page.
-const PAGE: usize = 96;
+pub const PAGE: usize = 96;
 
 #[derive(Clone, Copy, PartialEq, Eq, Debug)]
 pub enum Kind {

@@ -9,7 +9,7 @@ use crate::note::{Kind, Note, of_serial};
 use record::Head;
 
 // The number of pages in the memory.
-const PAGES: usize = 64;
+pub const PAGES: usize = 64;
 
 // Serials end where the sign of a 64-bit number would begin.
 const SERIALS: u64 = 0x8000_0000_0000_0000;
