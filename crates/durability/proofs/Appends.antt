@@ -8,8 +8,7 @@ use Rattle.record.specs.Entry.{Entry, laid_out}
 use Rattle.record.specs.Good.{Sound}
 use Rattle.record.proofs.Laws.{found_laid_out}
 use Rattle.journal.specs.Log.{nothing, said, if_serial, log}
-use Rattle.journal.proofs.Places.{kept}
-use Rattle.recovery.proofs.Replaying.{serial_here, serial_else, serial_nothing}
+use Rattle.journal.proofs.Places.{kept, serial_here, serial_else, serial_nothing}
 use Rattle.durability.specs.Items.{Item, recorded, appending}
 use Rattle.durability.specs.Promises.{BeforeItems, Appended, AppendCut}
 use Rattle.durability.proofs.Writes.{Steady, Written, left_done, left_short, chosen, shown_written, quiet_settled}

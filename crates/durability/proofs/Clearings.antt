@@ -8,10 +8,9 @@ use Rattle.device.proofs.Membership.{among_left, among_split}
 use Rattle.record.specs.Entry.{Entry}
 use Rattle.journal.specs.Log.{nothing, said, if_serial, log}
 use Rattle.journal.specs.Opening.{Here, Names, Runs}
-use Rattle.journal.proofs.Places.{kept, in_log, said_zeros}
+use Rattle.journal.proofs.Places.{kept, in_log, said_zeros, serial_nothing}
 use Rattle.recovery.specs.Format.{blank}
 use Rattle.recovery.specs.Clearing.{astray, blanking, clearing}
-use Rattle.recovery.proofs.Replaying.{serial_nothing}
 use Rattle.durability.specs.Standing.{Firm, OpensTo, Choice}
 use Rattle.durability.specs.Promises.{Cleared, ClearCut}
 use Rattle.durability.proofs.Writes.{Steady, Written, Left, steady_append, left_done, left_short, chosen, shown_written, quiet_settled, settling_writes}

@@ -10,10 +10,9 @@ use Rattle.record.proofs.Laws.{found_laid_out}
 use Rattle.journal.specs.Log.{nothing, said, log}
 use Rattle.journal.specs.Memory.{applied, replayed, byte_of, from_home}
 use Rattle.journal.specs.Opening.{Here}
-use Rattle.journal.proofs.Places.{said_zeros}
+use Rattle.journal.proofs.Places.{said_zeros, serial_here, serial_else, serial_nothing}
 use Rattle.journal.proofs.Overlay.{overlaid_above}
 use Rattle.recovery.specs.Format.{blank, zeroing, mark, first}
-use Rattle.recovery.proofs.Replaying.{serial_here, serial_else, serial_nothing}
 use Rattle.durability.specs.Standing.{Firm}
 use Rattle.durability.specs.Promises.{Formatted}
 use Rattle.durability.proofs.Writes.{Steady, shown_written, done_split, quiet_settled}

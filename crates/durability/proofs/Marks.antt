@@ -10,9 +10,8 @@ use Rattle.journal.specs.Log.{said, if_serial, log}
 use Rattle.journal.specs.Memory.{applied, replayed, byte_of, from_home}
 use Rattle.journal.specs.Opening.{Here}
 use Rattle.journal.proofs.Overlay.{overlaid_above}
-use Rattle.journal.proofs.Places.{kept, in_log}
+use Rattle.journal.proofs.Places.{kept, in_log, serial_here, serial_nothing}
 use Rattle.recovery.specs.Format.{mark}
-use Rattle.recovery.proofs.Replaying.{serial_here, serial_nothing}
 use Rattle.durability.specs.Standing.{Firm}
 use Rattle.durability.specs.Promises.{marking, Marked, MarkCut}
 use Rattle.durability.proofs.Writes.{Written, Spares, left_short, chosen, unwritten, shown_spared, shown_last, quiet_settled, settling_writes}

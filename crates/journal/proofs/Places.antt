@@ -1,6 +1,6 @@
 -- What is known of the record at a place of the log, and of the record with a serial.
 use Rattle.std.proofs.Common.{◌≡◌, ℕ, zero, suc, ◌+◌, ◌-◌, ◌%◌, ◌^◌, ◌<◌, ◌≤◌, eqb, ◌⊎◌, List, length, replicate, Some, None, Option, sym, refl, ap, ◌∙◌, subst, inl, inr, ⊎_elim, mod-lt, arith}
-use Rattle.std.proofs.lemmas.Bool.{cases_lt, cases_Bool, eqb-true, eq-eqb, cond-true, cond-false}
+use Rattle.std.proofs.lemmas.Bool.{cases_lt, cases_Bool, eqb-true, eq-eqb, ne_eqb, cond-true, cond-false, cond_both}
 use Rattle.device.specs.Disk.{Shown, spoiled, holds}
 use Rattle.record.specs.Entry.{Entry, reads_as}
 use Rattle.record.specs.Calls.{Answered, Told}
@@ -55,8 +55,19 @@ no_places p (holds bytes) = said_bad 0 p bytes (λ g. omega (arith, g.placed.nea
 
 -- the record with a serial is the one at its place, if that has this serial
 
-same_serial : (s : ℕ) (e : Entry) → e.serial ≡ s → if_serial s e ≡ e
-same_serial s e h = cond-true (eqb e.serial s) e nothing (eq-eqb e.serial s h)
+pub serial_here : (s : ℕ) (e e' : Entry) → e' ≡ e → e.serial ≡ s → if_serial s e' ≡ e
+serial_here s e e' same h = ap (if_serial s) same ∙ cond-true (eqb e.serial s) e nothing (eq-eqb e.serial s h)
+
+pub serial_else : (s : ℕ) (e e' : Entry) → e' ≡ e → (e.serial ≡ s → ⊥) → if_serial s e' ≡ nothing
+serial_else s e e' same h = ap (if_serial s) same ∙ cond-false (eqb e.serial s) e nothing (ne_eqb e.serial s h)
+
+pub serial_nothing : (s : ℕ) (e : Entry) → e ≡ nothing → if_serial s e ≡ nothing
+serial_nothing s e same = ap (if_serial s) same ∙ cond_both (eqb 0 s) nothing nothing (λ (x : Entry). x ≡ nothing) (λ _. refl) (λ _. refl)
+
+-- a log with no places has no record
+pub empty_log : (n : ℕ) (shows : ℕ → Shown) (s : ℕ) → n ≡ 0 → log n shows s ≡ nothing
+empty_log n shows s h =
+    subst (λ (k : ℕ). log k shows s ≡ nothing) (sym h) (serial_nothing s (said 0 (s % 0) (shows (s % 0))) (no_places (s % 0) (shows (s % 0))))
 
 found_serial : (s : ℕ) (e : Entry) → 1 ≤ (if_serial s e).kind → e.serial ≡ s
 found_serial s e h =
@@ -71,7 +82,7 @@ at_place n shows p h =
     let here = (sound n p (shows p) h).placed.here in (
       here,
       ap (λ (q : ℕ). if_serial (said n p (shows p)).serial (said n q (shows q))) here
-          ∙ same_serial (said n p (shows p)).serial (said n p (shows p)) refl,
+          ∙ serial_here (said n p (shows p)).serial (said n p (shows p)) (said n p (shows p)) refl refl,
     )
 
 -- and the log's record with a serial is what its place holds
@@ -79,7 +90,7 @@ pub in_log : (n : ℕ) (shows : ℕ → Shown) (s : ℕ) → Here (log n shows) 
 in_log n shows s h =
     let e = said n (s % n) (shows (s % n)) in
     let same = found_serial s e h in
-    (same, same_serial s e same)
+    (same, serial_here s e e refl same)
 
 -- All that is known of the record with serial s in a log of n places.
 pub record Kept (n s : ℕ) (e : Entry) : Type 0 where

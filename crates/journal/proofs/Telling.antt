@@ -1,7 +1,8 @@
 -- What is found in the notes of a log's places holds of the log.
-use Rattle.std.proofs.Common.{◌≡◌, ℕ, ◌+◌, ◌%◌, ◌^◌, ◌<◌, ◌≤◌, cond, eqb, ltb, List, length, get_or, set, Ok, Err, Result, sym, refl, ap, ◌∙◌, subst, ⊎_elim, mod-lt, arith, get_or-set_other, get_or-set_same}
+use Rattle.std.proofs.Common.{◌≡◌, ℕ, ◌+◌, ◌-◌, ◌%◌, ◌^◌, ◌<◌, ◌≤◌, cond, eqb, ltb, List, length, get_or, Some, None, Ok, Err, Option, Result, sym, refl, ap, ◌∙◌, subst, ⊎_elim, mod-lt, arith}
 use Rattle.std.proofs.lemmas.List.{get_or_past}
-use Rattle.std.proofs.lemmas.Bool.{cases_lt, cases_eq, eqb-true, eq-eqb, ne_eqb, lt-ltb, cond-true, cond-false, cond_both}
+use Rattle.std.proofs.lemmas.Option.{none-some}
+use Rattle.std.proofs.lemmas.Bool.{cases_lt, cases_eq, eqb-true, eq-eqb, ne_eqb, lt-ltb, le-ltb, cond-true, cond-false}
 use Rattle.device.specs.Disk.{Shown}
 use Rattle.record.specs.Entry.{Entry}
 use Rattle.record.specs.declared.Head.{Head}
@@ -10,104 +11,86 @@ use Rattle.journal.specs.declared.survey.Survey.{Survey}
 use Rattle.journal.specs.declared.survey.LogFault.{LogFault}
 use Rattle.journal.specs.declared.survey.LogFault.TheVariants.{NoLog, NoMark}
 use Rattle.journal.specs.Log.{nothing, said, if_serial, log}
-use Rattle.journal.specs.Notes.{blank, Notes, Noted}
+use Rattle.journal.specs.Notes.{kind_of_note, Tells, Notes, Noted, if_noted}
 use Rattle.journal.specs.Opening.{Here, Names, Runs, Covers, HasNoLog}
-use Rattle.journal.specs.Survey.{if_noted, by_serial, kind_at, Bare, NamesLow, Ended, Whole, Analysis, Analysed, Surveyed, Surveys}
-use Rattle.journal.proofs.Places.{sound, cases_said, no_places, at_place, in_log, kept}
+use Rattle.journal.specs.Survey.{by_serial, Bare, NamesLow, Ended, Whole, Analysis, Analysed, Surveyed, Surveys}
+use Rattle.journal.proofs.Places.{sound, no_places, serial_here, serial_else, serial_nothing, at_place, in_log, kept}
+use Rattle.journal.proofs.Steps.{kind_some}
 
-blank_notes : Notes nothing blank
-blank_notes = record { kind = refl; serial = refl; low = refl; ordinal = refl; page = refl; whole = refl }
+-- a note, and the record that it tells of
 
--- One more place noted: for a loop that fills the notes in.
-pub noted_more :
-    (n : ℕ) (shows : ℕ → Shown) (notes : List Note) (i : ℕ) (x : Note)
-    → i < length notes
-    → ((p : ℕ) → p < i → Notes (said n p (shows p)) (get_or notes p blank))
-    → Notes (said n i (shows i)) x
-    → (p : ℕ)
-    → p < i + 1
-    → Notes (said n p (shows p)) (get_or (set notes i x) p blank)
-noted_more n shows notes i x in' old new p h =
-    ⊎_elim
-    (λ lt. subst (Notes (said n p (shows p))) (sym (get_or-set_other notes i p x blank (λ e. omega arith))) (old p lt))
-    (λ ge.
-    let e : i ≡ p = omega arith in
-    subst (λ (q : ℕ). Notes (said n q (shows q)) (get_or (set notes i x) q blank)) e (subst (Notes (said n i (shows i))) (sym (get_or-set_same notes i x blank in')) new))
-    (cases_lt p i)
+same_kind : (e : Entry) (o : Option Note) → Notes e o → kind_of_note o ≡ e.kind
+same_kind e None h = ap (λ (d : Entry). d.kind) (sym h)
+same_kind e (Some x) h = h.kind
+
+tells_of : (e : Entry) (o : Option Note) (x : Note) → o ≡ Some x → Notes e o → Tells e x
+tells_of e o x is h = subst (λ (q : Option Note). Notes e q) is h
+
+has_note : (e : Entry) (o : Option Note) → Notes e o → 1 ≤ e.kind → (x : Note) × (o ≡ Some x) × Tells e x
+has_note e None h k = absurd (omega (arith, same_kind e None h))
+has_note e (Some x) h k = (x, refl, h)
 
 -- the note found by a serial tells of the record found by it
 
-abbrev picked : ℕ → Note → Note
-picked s x = cond (ltb s (2 ^ 63)) (if_noted s x) blank
+pub serial_noted : (s : ℕ) (e : Entry) (o : Option Note) → Notes e o → Notes (if_serial s e) (if_noted s o)
+serial_noted s e None h = serial_nothing s e h
+serial_noted s e (Some x) h =
+    ⊎_elim
+    (λ same.
+    let note-is = cond-true (eqb x.head.serial s) (Some x) None (eq-eqb x.head.serial s same) in
+    let entry-is = serial_here s e e refl (sym h.serial ∙ same) in
+    subst (Notes (if_serial s e)) (sym note-is) (subst (λ (d : Entry). Tells d x) (sym entry-is) h))
+    (λ other.
+    let note-is = cond-false (eqb x.head.serial s) (Some x) None (ne_eqb x.head.serial s other) in
+    subst (Notes (if_serial s e)) (sym note-is) (serial_else s e e refl (λ q. other (h.serial ∙ q))))
+    (cases_eq x.head.serial s)
 
--- whatever is picked where nothing stands is a note of nothing
-picked_none : (s : ℕ) (x : Note) → Notes nothing x → Notes nothing (picked s x)
-picked_none s x h =
-    cond_both
-    (ltb s (2 ^ 63)) (if_noted s x) blank (Notes nothing)
-    (λ _. cond_both (eqb x.head.serial s) x blank (Notes nothing) (λ _. h) (λ _. blank_notes))
-    (λ _. blank_notes)
+-- no record has a serial past the last
+past : (s : ℕ) (e : Entry) (o : Option Note) → Notes e o → (1 ≤ e.kind → e.serial < 2 ^ 63) → 2 ^ 63 ≤ s → if_serial s e ≡ nothing
+past s e None h bound ge = serial_nothing s e h
+past s e (Some x) h bound ge =
+    serial_else s e e refl (λ q. omega (arith, bound (omega (arith, h.kind, kind_some x.kind))))
 
-if_nothing : (s : ℕ) (e : Entry) → e ≡ nothing → if_serial s e ≡ nothing
-if_nothing s e h = ap (if_serial s) h ∙ cond_both (eqb 0 s) nothing nothing (λ (x : Entry). x ≡ nothing) (λ _. refl) (λ _. refl)
+pick : (s : ℕ) (e : Entry) (o : Option Note) → Notes e o → (1 ≤ e.kind → e.serial < 2 ^ 63) → Notes (if_serial s e) (cond (ltb s (2 ^ 63)) (if_noted s o) None)
+pick s e o h bound =
+    ⊎_elim
+    (λ lt. subst (Notes (if_serial s e)) (sym (cond-true (ltb s (2 ^ 63)) (if_noted s o) None (lt-ltb s (2 ^ 63) lt))) (serial_noted s e o h))
+    (λ ge. subst (Notes (if_serial s e)) (sym (cond-false (ltb s (2 ^ 63)) (if_noted s o) None (le-ltb s (2 ^ 63) ge))) (past s e o h bound ge))
+    (cases_lt s (2 ^ 63))
 
-picked_same : (s : ℕ) (e : Entry) (x : Note) → Notes e x → e.serial ≡ s → s < 2 ^ 63 → Notes (if_serial s e) (picked s x)
-picked_same s e x h same bound =
-    let entry-is = cond-true (eqb e.serial s) e nothing (eq-eqb e.serial s same) in
-    let note-is = cond-true (ltb s (2 ^ 63)) (if_noted s x) blank (lt-ltb s (2 ^ 63) bound) ∙ cond-true (eqb x.head.serial s) x blank (eq-eqb x.head.serial s (h.serial ∙ same)) in
-    subst (λ (y : Note). Notes (if_serial s e) y) (sym note-is) (subst (λ (d : Entry). Notes d x) (sym entry-is) h)
-
-picked_other : (s : ℕ) (e : Entry) (x : Note) → Notes e x → (e.serial ≡ s → ⊥) → Notes (if_serial s e) (picked s x)
-picked_other s e x h other =
-    let entry-is = cond-false (eqb e.serial s) e nothing (ne_eqb e.serial s other) in
-    let note-is = cond-false (eqb x.head.serial s) x blank (ne_eqb x.head.serial s (λ q. other (sym h.serial ∙ q))) in
-    subst
-    (λ (d : Entry). Notes d (picked s x))
-    (sym entry-is)
-    (cond_both (ltb s (2 ^ 63)) (if_noted s x) blank (Notes nothing) (λ _. subst (Notes nothing) (sym note-is) blank_notes) (λ _. blank_notes))
-
-module _ (n : ℕ) (shows : ℕ → Shown) (notes : List Note) (noted : Noted n shows notes) where
-  at : (p : ℕ) → p < n → Notes (said n p (shows p)) (get_or notes p blank)
-  at p h = noted.each p h
-
-  at_none : (s : ℕ) → n ≡ 0 → Notes (said n (s % n) (shows (s % n))) (get_or notes (s % length notes) blank)
+module _ (n : ℕ) (shows : ℕ → Shown) (notes : List (Option Note)) (noted : Noted n shows notes) where
+  at_none : (s : ℕ) → n ≡ 0 → Notes (said n (s % n) (shows (s % n))) (get_or notes (s % length notes) None)
   at_none s h =
-      let bare = get_or_past notes (s % length notes) blank (omega (arith, noted.count)) in
-      let e : said n (s % n) (shows (s % n)) ≡ nothing = subst (λ (k : ℕ). said k (s % k) (shows (s % k)) ≡ nothing) (sym h) (no_places (s % 0) (shows (s % 0))) in
-      subst (λ (d : Entry). Notes d (get_or notes (s % length notes) blank)) (sym e) (subst (Notes nothing) (sym bare) blank_notes)
+      let bare = get_or_past notes (s % length notes) None (omega (arith, noted.count)) in
+      subst (Notes (said n (s % n) (shows (s % n)))) (sym bare) (subst (λ (k : ℕ). said k (s % k) (shows (s % k)) ≡ nothing) (sym h) (no_places (s % 0) (shows (s % 0))))
 
-  at_serial : (s : ℕ) → Notes (said n (s % n) (shows (s % n))) (get_or notes (s % length notes) blank)
+  at_serial : (s : ℕ) → Notes (said n (s % n) (shows (s % n))) (get_or notes (s % length notes) None)
   at_serial s =
       ⊎_elim
-      (λ h. subst (λ (k : ℕ). Notes (said n (s % n) (shows (s % n))) (get_or notes (s % k) blank)) (sym noted.count) (at (s % n) (mod-lt s h)))
+      (λ h. subst (λ (k : ℕ). Notes (said n (s % n) (shows (s % n))) (get_or notes (s % k) None)) (sym noted.count) (noted.each (s % n) (mod-lt s h)))
       (λ h. at_none s (omega arith))
       (cases_lt 0 n)
 
   pub tells : (s : ℕ) → Notes (log n shows s) (by_serial notes s)
   tells s =
-      let e = said n (s % n) (shows (s % n)) in
-      let x = get_or notes (s % length notes) blank in
-      ⊎_elim
-      (λ none. subst (λ (d : Entry). Notes d (picked s x)) (sym (if_nothing s e none)) (picked_none s x (subst (λ (d : Entry). Notes d x) none (at_serial s))))
-      (λ some.
-      ⊎_elim
-      (λ same. picked_same s e x (at_serial s) same (omega (arith, (sound n (s % n) (shows (s % n)) some).placed.serial_to, same)))
-      (λ other. picked_other s e x (at_serial s) other)
-      (cases_eq e.serial s))
-      (cases_said n (s % n) (shows (s % n)))
+      pick s (said n (s % n) (shows (s % n))) (get_or notes (s % length notes) None) (at_serial s) (λ h. (sound n (s % n) (shows (s % n)) h).placed.serial_to)
+
+  kinds : (s : ℕ) → kind_of_note (by_serial notes s) ≡ (log n shows s).kind
+  kinds s = same_kind (log n shows s) (by_serial notes s) (tells s)
 
   -- a record of the log is noted at its place
-  noted_at : (s : ℕ) → Here (log n shows) s → (s % n < n) × (1 ≤ kind_at notes (s % n)) × ((get_or notes (s % n) blank).head.serial ≡ s)
+  noted_at : (s : ℕ) → Here (log n shows) s → (x : Note) × (s % n < n) × (get_or notes (s % n) None ≡ Some x) × (x.head.serial ≡ s)
   noted_at s h =
       let some : 0 < n = omega (arith, (kept n shows s h).near) in
       let is = in_log n shows s h in
-      let x = at (s % n) (mod-lt s some) in
-      (mod-lt s some, subst (λ (k : ℕ). 1 ≤ k) (ap (λ (e : Entry). e.kind) is.1 ∙ sym x.kind) h, x.serial ∙ is.0)
+      let here : 1 ≤ (said n (s % n) (shows (s % n))).kind = subst (λ (e : Entry). 1 ≤ e.kind) is.1 h in
+      let x = has_note (said n (s % n) (shows (s % n))) (get_or notes (s % n) None) (noted.each (s % n) (mod-lt s some)) here in
+      (x.0, mod-lt s some, x.1, x.2.serial ∙ is.0)
 
   pub no_log : Bare notes (length notes) → HasNoLog n shows
   no_log bare s =
       ⊎_elim
-      (λ h. absurd (let at-s = noted_at s h in omega (arith, at-s.1, bare (s % n) (omega (arith, at-s.0, noted.count)))))
+      (λ h. absurd (let x = noted_at s h in none-some x.0 (sym (bare (s % n) (omega (arith, x.1, noted.count))) ∙ x.2)))
       (λ h. omega arith)
       (cases_lt 0 (log n shows s).kind)
 
@@ -116,33 +99,36 @@ module _ (n : ℕ) (shows : ℕ → Shown) (notes : List Note) (noted : Noted n 
       let best = l.best in
       let p = best.place in
       let e = said n p (shows p) in
-      let x = at p (omega (arith, best.below, noted.count)) in
-      let some : 1 ≤ e.kind = subst (λ (k : ℕ). 1 ≤ k) x.kind best.there in
+      let x = tells_of e (get_or notes p None) best.note best.there (noted.each p (omega (arith, best.below, noted.count))) in
+      let some : 1 ≤ e.kind = omega (arith, x.kind, kind_some best.note.kind) in
       let same : e.serial ≡ l.head.serial = sym x.serial ∙ ap (λ (h : Head). h.serial) best.head in
       let is : log n shows l.head.serial ≡ e = subst (λ (k : ℕ). log n shows k ≡ e) same (at_place n shows p some).1 in
       record {
         top = l.head.serial;
         here = subst (λ (d : Entry). 1 ≤ d.kind) (sym is) some;
-        greatest = λ s h. let at-s = noted_at s h in omega (arith, at-s.2, best.greatest (s % n) (omega (arith, at-s.0, noted.count)) at-s.1);
+        greatest = λ s h. let y = noted_at s h in omega (arith, y.3, best.greatest (s % n) y.0 (omega (arith, y.1, noted.count)) y.2);
         named = ap (λ (d : Entry). d.low) is ∙ sym x.low ∙ ap (λ (h : Head). h.low) best.head ∙ l.named;
       }
 
-  pub runs : (low c : ℕ) → Ended notes low (by_serial notes c) → (by_serial notes c).head.serial ≡ c → Runs (log n shows) low c
-  runs low c ended same =
+  found : (s : ℕ) (x : Note) → by_serial notes s ≡ Some x → Tells (log n shows s) x
+  found s x is = tells_of (log n shows s) (by_serial notes s) x is (tells s)
+
+  pub runs : (low c : ℕ) (end : Note) → Ended notes low end → end.head.serial ≡ c → Runs (log n shows) low c
+  runs low c end ended same =
       let run = ended.run in
       record {
-        last = ended.last;
+        last = ended.next - 1;
         from = omega (arith, run.from);
         to = omega (arith, run.to);
-        unbroken = λ s a b. omega (arith, run.unbroken s a b, (tells s).kind);
-        gap = sym (tells (ended.last + 1)).kind ∙ ended.gap;
-        ends = omega (arith, run.ends, (tells c).kind);
-        greatest = λ s a b. omega (arith, run.greatest s (omega arith) b, (tells s).kind);
+        unbroken = λ s a b. omega (arith, run.unbroken s a (omega (arith, run.to)), kinds s);
+        gap = let e : ended.next - 1 + 1 ≡ ended.next = omega (arith, run.to) in ap (λ (s : ℕ). (log n shows s).kind) e ∙ sym (kinds ended.next) ∙ ap kind_of_note ended.gap;
+        ends = subst (λ (s : ℕ). 2 ≤ (log n shows s).kind) same (omega (arith, run.ends, (found end.head.serial end run.found).kind));
+        greatest = λ s a b. omega (arith, run.greatest s (omega arith) (omega (arith, run.to)), kinds s);
       }
 
   covers : (low c p : ℕ) → Whole notes low (c + 1) p → Covers (log n shows) low c p
   covers low c p w =
-      let x = tells w.serial in
+      let x = found w.serial w.note w.found in
       record {
         serial = w.serial;
         from = w.from;
@@ -151,31 +137,35 @@ module _ (n : ℕ) (shows : ℕ → Shown) (notes : List Note) (noted : Noted n 
         whole = eqb-true (length (log n shows w.serial).bytes) 96 (sym x.whole ∙ w.whole);
       }
 
-  covered : (low c p : ℕ) → Covers (log n shows) low c p → Whole notes low (c + 1) p
-  covered low c p w =
-      let x = tells w.serial in
+  covered : (low c p : ℕ) → ((s : ℕ) → low ≤ s → s ≤ c → Here (log n shows) s) → Covers (log n shows) low c p → Whole notes low (c + 1) p
+  covered low c p here w =
+      let x = has_note (log n shows w.serial) (by_serial notes w.serial) (tells w.serial) (here w.serial w.from w.to) in
       record {
         serial = w.serial;
         from = w.from;
         below = omega (arith, w.to);
-        page = x.page ∙ w.page;
-        whole = x.whole ∙ eq-eqb (length (log n shows w.serial).bytes) 96 w.whole;
+        note = x.0;
+        found = x.1;
+        page = x.2.page ∙ w.page;
+        whole = x.2.whole ∙ eq-eqb (length (log n shows w.serial).bytes) 96 w.whole;
       }
 
   pub surveyed : (s : Survey) → Analysis notes s → Surveyed n shows s
   surveyed s a =
+      let run = runs s.low s.last a.end a.run a.last in
+      let end = found a.end.head.serial a.end a.run.run.found in
       record {
         names = names s.low a.names;
-        mark = sym (tells s.low).kind ∙ a.mark;
-        run = runs s.low s.last a.run a.last;
-        ordinal = sym a.ordinal ∙ (tells s.last).ordinal;
+        mark = sym (kinds s.low) ∙ a.mark;
+        run = run;
+        ordinal = sym a.ordinal ∙ end.ordinal ∙ ap (λ (k : ℕ). (log n shows k).ordinal) a.last;
         pages = a.covers.size;
         only = λ p h t. covers s.low s.last p (a.covers.only p h t);
-        all = λ p h w. a.covers.all p h (covered s.low s.last p w);
+        all = λ p h w. a.covers.all p h (covered s.low s.last p (λ k from to. run.unbroken k from (omega (arith, run.to))) w);
       }
 
   pub surveys : (r : Result Survey LogFault) → Analysed notes r → Surveys n shows r
   surveys (Ok s) a = surveyed s a
   surveys (Err NoLog) a = no_log a
   surveys (Err (NoMark low)) a =
-      record { names = names low a.names; no_mark = λ k. a.no_mark ((tells low).kind ∙ k) }
+      record { names = names low a.names; no_mark = λ k. a.no_mark (kinds low ∙ k) }

@@ -7,8 +7,8 @@ ghost use Rattle.journal.specs.Opening.{Determined};
 mod note;
 mod survey;
 
-pub use note::{BLANK, Kind, Note, look_at, note_of, record_at};
-pub use survey::{LogFault, Survey, survey_of};
+pub use note::{Kind, Note, PAGE, look_at, note_of, of_serial, record_at};
+pub use survey::{LogFault, PAGES, Survey, survey_of};
 
 // Names the theorem that what an opening finds is determined by what the sectors show.
 pub fn finding_is_determined()

@@ -1,18 +1,17 @@
-// The short note that an opening keeps of each sector of a log: all that the analysis asks of it.
+// The short note that an opening keeps of each record of a log: all that the analysis asks of it.
 ghost use Rattle.device.specs.Disk.{holds};
 ghost use Rattle.journal.specs.Log.{said};
-ghost use Rattle.journal.specs.Notes.{Notes, found_entry};
+ghost use Rattle.journal.specs.Notes.{Notes, Tells, found_entry, if_noted};
+ghost use Rattle.record.specs.Entry.{entry};
 ghost use Rattle.std.specs.Prelude.{◌≡◌};
 
 use record::{Head, Record};
 
 // The number of bytes in a page.
-const PAGE: usize = 96;
+pub const PAGE: usize = 96;
 
-#[derive(Clone, Copy)]
+#[derive(Clone, Copy, PartialEq, Eq, Debug)]
 pub enum Kind {
-    // No record, or one that is not good.
-    Nothing,
     // A part of a transaction with more parts to come.
     Part,
     // The last part of a transaction.
@@ -30,51 +29,38 @@ pub struct Note {
     pub whole: bool,
 }
 
-// The note where there is no record.
-pub const BLANK: Note = Note {
-    head: Head {
-        serial: 0,
-        low: 0,
-        ordinal: 0,
-    },
-    kind: Kind::Nothing,
-    page: 0,
-    whole: false,
-};
+impl From<Record<'_>> for Note {
+    ghost from_gives = { λ r x. Tells (entry r) x };
 
-// The note of a record that was found, or of none.
-pub fn note_of(found: Option<Record<'_>>) -> Note
-    ensures { Notes (found_entry found.entry) result }
-{
-    match found {
-        None => BLANK,
-        Some(
+    fn from(record: Record<'_>) -> Self {
+        let (kind, page, whole) = match record {
             Record::Part {
-                head,
                 page,
                 last,
                 bytes,
                 ..
-            },
-        ) => Note {
-            head,
-            kind: if last { Kind::Last } else { Kind::Part },
+            } => (
+                if last { Kind::Last } else { Kind::Part },
+                page,
+                bytes.len() == PAGE,
+            ),
+            Record::Page { page, bytes, .. } => (Kind::Page, page, bytes.len() == PAGE),
+            Record::Mark { .. } => (Kind::Mark, 0, false),
+        };
+        Note {
+            head: record.head(),
+            kind,
             page,
-            whole: bytes.len() == PAGE,
-        },
-        Some(Record::Page { head, page, bytes }) => Note {
-            head,
-            kind: Kind::Page,
-            page,
-            whole: bytes.len() == PAGE,
-        },
-        Some(Record::Mark { head }) => Note {
-            head,
-            kind: Kind::Mark,
-            page: 0,
-            whole: false,
-        },
+            whole,
+        }
     }
+}
+
+// The note of a record that was found, or of none.
+pub fn note_of(found: Option<Record<'_>>) -> Option<Note>
+    ensures { Notes (found_entry found.entry) result }
+{
+    found.map(Note::from)
 }
 
 // The record that a sector with these bytes holds, at this place of a log of so many sectors.
@@ -84,9 +70,16 @@ pub fn record_at<'a>(sector: &'a [u8], place: usize, places: usize) -> Option<Re
     record::read(sector, place, places)
 }
 
-// The note of such a sector. Of a spoiled one it is the note of no record.
-pub fn look_at(sector: &[u8], place: usize, places: usize) -> Note
+// The note of such a sector.
+pub fn look_at(sector: &[u8], place: usize, places: usize) -> Option<Note>
     ensures { Notes (said places place (holds sector.now)) result }
 {
     note_of(record_at(sector, place, places))
+}
+
+// The note, if it is of the record with this serial.
+pub fn of_serial(note: Option<Note>, serial: u64) -> Option<Note>
+    ensures { result ≡ if_noted serial note }
+{
+    note.filter(|note| note.head.serial == serial)
 }

@@ -1,29 +1,12 @@
 -- Records applied to the memory in the order of their serials.
-use Rattle.std.proofs.Common.{◌≡◌, ℕ, suc, ◌+◌, ◌-◌, ◌<◌, ◌≤◌, true, false, cond, eqb, List, [], length, get_or, sym, refl, ap, ◌∙◌, ⊎_elim, arith}
-use Rattle.std.proofs.lemmas.Bool.{cases_lt, eq-eqb, ne_eqb}
+use Rattle.std.proofs.Common.{◌≡◌, ℕ, suc, ◌+◌, ◌-◌, ◌<◌, ◌≤◌, List, [], length, get_or, sym, refl, ap, ◌∙◌, ⊎_elim, arith}
+use Rattle.std.proofs.lemmas.Bool.{cases_lt}
 use Rattle.device.specs.Disk.{Disk}
 use Rattle.record.specs.Entry.{Entry}
 use Rattle.record.specs.Good.{Fits}
-use Rattle.journal.specs.Log.{nothing, log, if_serial}
+use Rattle.journal.specs.Log.{nothing, log}
 use Rattle.journal.specs.Memory.{place_of, applied, replayed}
 use Rattle.journal.proofs.Overlay.{overlaid_above}
-
-pub serial_here : (s : ℕ) (e e' : Entry) → e' ≡ e → e.serial ≡ s → if_serial s e' ≡ e
-serial_here s e e' same here =
-    let t = eq-eqb e.serial s here in
-    ap (λ (x : Entry). if_serial s x) same ∙ ap (λ b. cond b e nothing) t
-
-pub serial_else : (s : ℕ) (e e' : Entry) → e' ≡ e → (e.serial ≡ s → ⊥) → if_serial s e' ≡ nothing
-serial_else s e e' same else =
-    let t = ne_eqb e.serial s else in
-    ap (λ (x : Entry). if_serial s x) same ∙ ap (λ b. cond b e nothing) t
-
-pub serial_nothing : (s : ℕ) (e : Entry) → e ≡ nothing → if_serial s e ≡ nothing
-serial_nothing s e same = ap (λ (x : Entry). if_serial s x) same ∙ both (eqb 0 s)
-  where
-    both : (b : _) → cond b nothing nothing ≡ nothing
-    both true = refl
-    both false = refl
 
 pub applied_nothing : (e : Entry) (i v : ℕ) → e ≡ nothing → applied e i v ≡ v
 applied_nothing e i v same = ap (λ (x : Entry). applied x i v) same ∙ overlaid_above 0 [] i v (omega arith) (omega arith)

@@ -1,11 +1,17 @@
 -- Strays cleared one after another.
-use Rattle.std.proofs.Common.{◌≡◌, ℕ, suc, ◌+◌, ◌-◌, ◌<◌, ◌≤◌, Bool, true, false, cond, List, ◌∷◌, Err, sym, refl, ap, ◌∙◌, subst, add-one, arith}
+use Rattle.std.proofs.Common.{◌≡◌, ℕ, suc, ◌+◌, ◌-◌, ◌<◌, ◌≤◌, Bool, true, false, cond, ltb, List, ◌∷◌, Some, None, Option, Err, sym, refl, ap, ◌∙◌, subst, add-one, arith}
+use Rattle.std.specs.Option.{MatchOption}
+use Rattle.std.proofs.lemmas.Bool.{le-ltb}
 use Rattle.device.specs.declared.fault.DeviceFault.{DeviceFault}
 use Rattle.device.specs.declared.fault.DeviceFault.TheVariants.{Power, Misaddressed, Unfit, Spoiled}
 use Rattle.device.specs.Disk.{Disk, Plate, Shown}
 use Rattle.device.specs.Meaning.{Wrote, Write}
 use Rattle.device.specs.Trace.{Act, wrote, Done, Tries}
 use Rattle.device.proofs.Plans.{Working, work_begins, work_goes, work_ends, work_cut, write_tried}
+use Rattle.record.specs.Entry.{Entry}
+use Rattle.journal.specs.declared.note.Note.{Note}
+use Rattle.journal.specs.Log.{said}
+use Rattle.journal.specs.Notes.{Notes}
 use Rattle.journal.specs.Opening.{strays}
 use Rattle.recovery.specs.Format.{blank}
 use Rattle.recovery.specs.Clearing.{Yields, astray, blanking}
@@ -39,6 +45,11 @@ blanking_none test i n h t = blanking_more test i n h ∙ ap (λ (b : Bool). con
 strays_more : (n : ℕ) (shows : ℕ → Shown) (c i : ℕ) → strays n shows c (i + 1) ≡ cond (astray n shows c i) 1 0 + strays n shows c i
 unfolding strays
 strays_more n shows c i = rw add-one refl
+
+-- what a note tells of its place
+pub noted_astray : (n : ℕ) (shows : ℕ → Shown) (c p : ℕ) (o : Option Note) (b : Bool) → Notes (said n p (shows p)) o → MatchOption o (b ≡ false) (λ x. b ≡ ltb c x.head.serial) → astray n shows c p ≡ b
+noted_astray n shows c p None b h k = ap (λ (e : Entry). ltb c e.serial) h ∙ le-ltb c 0 (omega arith) ∙ sym k
+noted_astray n shows c p (Some x) b h k = ap (ltb c) (sym h.serial) ∙ sym k
 
 -- how far the clearing has come
 pub record ClearedTo (d m : Disk) (n c i count : ℕ) : Type 0 where

@@ -8,6 +8,7 @@ use Rattle.journal.specs.declared.survey.Survey.{Survey}
 use Rattle.journal.specs.Log.{log}
 use Rattle.journal.specs.Opening.{Names, Runs, Usable, Remembers, Finds, HasNoLog, HasNoMark, Uncovered as Bare}
 use Rattle.recovery.specs.declared.fault.RecoveryFault.{RecoveryFault}
+use Rattle.recovery.specs.declared.places.Places.{Places}
 use Rattle.recovery.specs.declared.fault.RecoveryFault.TheVariants.{Device, Size, NoLog, NoMark, Uncovered}
 use Rattle.recovery.specs.Clearing.{clearing}
 use Rattle.recovery.specs.Format.{formatting}
@@ -69,9 +70,9 @@ pub record Divides (sectors n : ℕ) : Type 0 where
   pub least : 160 ≤ n
   pub most : n ≤ 1024
 
--- The number of log sectors, or the refusal of a device that is too small or too large.
-abbrev pub Divided : ℕ → Result ℕ RecoveryFault → Type 0
-Divided sectors (Ok n) = Divides sectors n
+-- How a device of this many sectors is divided, or the refusal of one that is too small or too large.
+abbrev pub Divided : ℕ → Result Places RecoveryFault → Type 0
+Divided sectors (Ok p) = Divides sectors p.count
 Divided sectors (Err (Device _)) = ⊥
 Divided sectors (Err (Size count)) = (count ≡ sectors) × ((sectors < 224) ⊎ (1088 < sectors))
 Divided sectors (Err NoLog) = ⊥

@@ -14,21 +14,18 @@ Looks d found (Err (Misaddressed _ _)) e = ⊥
 Looks d found (Err Unfit) e = ⊥
 Looks d found (Err (Spoiled _ _)) e = ⊥
 
--- Whether a sector could be read, and its bytes where it could. A buffer is as it was where it couldn't.
-abbrev pub Fetched : Disk → ℕ → List ℕ → List ℕ → Bool → Type 0
-Fetched d s before after true = d.shows s ≡ holds after
-Fetched d s before after false = (d.shows s ≡ spoiled) × (after ≡ before)
+-- What was read of a sector: its bytes, or none where it is spoiled.
+abbrev pub Fetched : Disk → ℕ → Option (List ℕ) → Type 0
+Fetched d s (Some bytes) = d.shows s ≡ holds bytes
+Fetched d s None = d.shows s ≡ spoiled
 
 -- Page p was started from its home at sector n + p: zeros where that is spoiled.
 pub record HomeLoaded (d : Disk) (n p : ℕ) (before after : List ℕ) (readable : Bool) : Type 0 where
   pub bytes : (i : ℕ) → slice_index after i ≡ cond (i / 96 == p) (from_home n d.shows i) (slice_index before i)
   pub told : (d.shows (n + p) ≡ spoiled → readable ≡ false) × (readable ≡ false → d.shows (n + p) ≡ spoiled)
 
--- All homes were loaded, or page p is the lowest whose home is spoiled and that is not covered.
-abbrev pub HomesLoaded : Disk → ℕ → List Bool → List ℕ → Option ℕ → Type 0
-HomesLoaded d n covered after None =
+-- All homes were loaded, and each page whose home is spoiled is covered.
+abbrev pub HomesLoaded : Disk → ℕ → List Bool → List ℕ → Type 0
+HomesLoaded d n covered after =
     ((i : ℕ) → i < 6144 → slice_index after i ≡ from_home n d.shows i)
     × ((p : ℕ) → p < 64 → d.shows (n + p) ≡ spoiled → slice_index_or covered p false ≡ true)
-HomesLoaded d n covered after (Some p) =
-    (p < 64) × (d.shows (n + p) ≡ spoiled) × (slice_index_or covered p false ≡ false)
-    × ((q : ℕ) → q < p → d.shows (n + q) ≡ spoiled → slice_index_or covered q false ≡ true)

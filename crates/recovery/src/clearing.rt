@@ -1,24 +1,34 @@
 // Clearing the strays that an opening finds.
-ghost use Rattle.std.specs.Prelude.{◌≡◌, ◌≤◌, length};
+ghost use Rattle.std.specs.Prelude.{◌≡◌, ◌≤◌, MatchOption, false, length, nat_lt};
 ghost use Rattle.device.specs.Disk.{Disk};
 ghost use Rattle.journal.specs.Notes.{Noted};
 ghost use Rattle.journal.specs.Opening.{strays};
 ghost use Rattle.recovery.specs.Clearing.{Yields, astray, blanking, clearing};
 
-use device::{Device, DeviceFault};
+use device::{Device, DeviceFault, SECTOR};
 use journal::Note;
 
+// Whether the note is of a stray: of a record with a serial above `last`.
+fn is_stray(note: Option<Note>, last: u64) -> bool
+    ensures { MatchOption note (result ≡ false) (λ x. result ≡ nat_lt last x.head.serial) }
+{
+    note.is_some_and(|note| note.head.serial > last)
+}
+
 // Writes zeros over each sector whose record has a serial above `last`, and counts them.
-fn blank_strays<D: Device>(device: &mut D, notes: &[Note], last: u64) -> Result<usize, DeviceFault>
+fn blank_strays<D: Device>(
+    device: &mut D,
+    notes: &[Option<Note>],
+    last: u64,
+) -> Result<usize, DeviceFault>
     requires room { length notes.now ≤ (D.Device.disk device.old).plate.sectors }
     requires noted { Noted (length notes.now) (D.Device.disk device.old).shows notes.now }
     ensures { Yields (D.Device.disk device.old) (blanking (astray (length notes.now) (D.Device.disk device.old).shows last) 0 (length notes.now)) (λ count. count ≡ strays (length notes.now) (D.Device.disk device.old).shows last (length notes.now)) result (D.Device.disk device.new) }
 {
-    let zeros = [0u8; 128];
-    let mut count = 0usize;
-    for place in 0..notes.len() {
-        if notes[place].head.serial > last {
-            device.write(place, &zeros)?;
+    let mut count = 0;
+    for (place, note) in notes.iter().enumerate() {
+        if is_stray(*note, last) {
+            device.write(place, &[0; SECTOR])?;
             count += 1;
         }
     }
@@ -28,7 +38,7 @@ fn blank_strays<D: Device>(device: &mut D, notes: &[Note], last: u64) -> Result<
 // Clears the strays and settles that, so that none of them is found again. Says how many there were.
 pub(crate) fn clear<D: Device>(
     device: &mut D,
-    notes: &[Note],
+    notes: &[Option<Note>],
     last: u64,
 ) -> Result<usize, DeviceFault>
     requires room { length notes.now ≤ (D.Device.disk device.old).plate.sectors }

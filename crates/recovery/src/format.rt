@@ -8,30 +8,20 @@ ghost use Rattle.recovery.specs.Format.{zeroing, formatting, mark, first};
 ghost use Rattle.recovery.specs.Opening.{Formats};
 
 use crate::fault::RecoveryFault;
-use crate::opening::places_of;
-use device::{Device, DeviceFault};
+use crate::places::Places;
+use device::{Device, DeviceFault, SECTOR};
 use record::{Head, Record};
 
 // Writes zeros over the first `sectors` sectors, the lowest first.
-pub(crate) fn zero_all<D: Device>(device: &mut D, sectors: usize) -> Result<(), DeviceFault>
+fn zero_all<D: Device>(device: &mut D, sectors: usize) -> Result<(), DeviceFault>
     requires { sectors ≤ (D.Device.disk device.old).plate.sectors }
     ensures { Tries (D.Device.disk device.old) (zeroing 0 sectors) result (D.Device.disk device.new) }
 {
-    let zeros = [0u8; 128];
+    // By index: the sectors of a device are no slice.
     for sector in 0..sectors {
-        device.write(sector, &zeros)?;
+        device.write(sector, &[0; SECTOR])?;
     }
     Ok(())
-}
-
-pub(crate) fn serial_of(record: &Record) -> u64
-    ensures { result ≡ (entry «record».now).serial }
-{
-    match *record {
-        Record::Part { head, .. } => head.serial,
-        Record::Page { head, .. } => head.serial,
-        Record::Mark { head } => head.serial,
-    }
 }
 
 // Writes a record in its place of a log that lies on the device. A log with no places has none for it.
@@ -42,36 +32,27 @@ pub fn write_record<D: Device>(
 ) -> Result<(), DeviceFault>
     ensures { Recorded (D.Device.disk device.old) places (entry «record».now) result (D.Device.disk device.new) }
 {
-    if places == 0 {
+    let Some(place) = record.head().serial.checked_rem(places as u64) else {
         return Err(DeviceFault::Misaddressed(0, 0));
-    }
-    write_at(
-        device,
-        (serial_of(record) % places as u64) as usize,
-        *record,
-    )
+    };
+    write_at(device, place as usize, *record)
 }
 
 // Writes a record over a sector.
 fn write_at<D: Device>(device: &mut D, sector: usize, record: Record) -> Result<(), DeviceFault>
     ensures { sector < (D.Device.disk device.old).plate.sectors → Fitting (entry «record».entry) → Tries (D.Device.disk device.old) (wrote sector (laid_out (entry «record».entry)) ∷ []) result (D.Device.disk device.new) }
 {
-    let mut bytes = [0u8; 128];
+    let mut bytes = [0u8; SECTOR];
     let _ = record::write(record, &mut bytes);
     device.write(sector, &bytes)
 }
 
 // Writes a mark in its place of the log.
-pub(crate) fn write_mark<D: Device>(
-    device: &mut D,
-    places: usize,
-    head: Head,
-) -> Result<(), DeviceFault>
-    requires some { 1 ≤ places }
-    requires room { places ≤ (D.Device.disk device.old).plate.sectors }
-    ensures { Tries (D.Device.disk device.old) (wrote (head.serial % places) (laid_out (mark head)) ∷ []) result (D.Device.disk device.new) }
+fn write_mark<D: Device>(device: &mut D, places: Places, head: Head) -> Result<(), DeviceFault>
+    requires { places.count + 64 ≤ (D.Device.disk device.old).plate.sectors }
+    ensures { Tries (D.Device.disk device.old) (wrote (head.serial % places.count) (laid_out (mark head)) ∷ []) result (D.Device.disk device.new) }
 {
-    write_record(device, places, &Record::mark(head))
+    write_record(device, places.count, &Record::mark(head))
 }
 
 // Restarts the device and writes zeros over all of its sectors.
@@ -84,10 +65,9 @@ fn blank_all<D: Device>(device: &mut D, sectors: usize) -> Result<(), DeviceFaul
 }
 
 // Settles the zeros, writes the first mark, and settles that.
-fn begin_log<D: Device>(device: &mut D, places: usize) -> Result<(), DeviceFault>
-    requires some { 1 ≤ places }
-    requires room { places ≤ (D.Device.disk device.old).plate.sectors }
-    ensures { Tries (D.Device.disk device.old) (settled ∷ wrote (1 % places) (laid_out (mark first)) ∷ settled ∷ []) result (D.Device.disk device.new) }
+fn begin_log<D: Device>(device: &mut D, places: Places) -> Result<(), DeviceFault>
+    requires { places.count + 64 ≤ (D.Device.disk device.old).plate.sectors }
+    ensures { Tries (D.Device.disk device.old) (settled ∷ wrote (1 % places.count) (laid_out (mark first)) ∷ settled ∷ []) result (D.Device.disk device.new) }
 {
     device.barrier()?;
     let head = Head {
@@ -100,17 +80,11 @@ fn begin_log<D: Device>(device: &mut D, places: usize) -> Result<(), DeviceFault
 }
 
 // Makes a new log of so many sectors, with the homes after it: zeros everywhere, and one mark.
-pub(crate) fn format_device<D: Device>(
-    device: &mut D,
-    places: usize,
-    sectors: usize,
-) -> Result<(), DeviceFault>
-    requires some { 1 ≤ places }
-    requires homes { sectors ≡ places + 64 }
-    requires whole { sectors ≡ (D.Device.disk device.old).plate.sectors }
-    ensures { Tries (D.Device.disk device.old) (formatting places) result (D.Device.disk device.new) }
+fn format_device<D: Device>(device: &mut D, places: Places) -> Result<(), DeviceFault>
+    requires { places.count + 64 ≡ (D.Device.disk device.old).plate.sectors }
+    ensures { Tries (D.Device.disk device.old) (formatting places.count) result (D.Device.disk device.new) }
 {
-    blank_all(device, sectors)?;
+    blank_all(device, places.sectors())?;
     begin_log(device, places)
 }
 
@@ -118,8 +92,7 @@ pub(crate) fn format_device<D: Device>(
 pub fn format_log<D: Device>(device: &mut D) -> Result<usize, RecoveryFault>
     ensures { Formats (D.Device.disk device.old) result (D.Device.disk device.new) }
 {
-    let sectors = device.sectors();
-    let places = places_of(sectors)?;
-    format_device(device, places, sectors)?;
-    Ok(places)
+    let places = Places::try_from(device.sectors())?;
+    format_device(device, places)?;
+    Ok(places.count)
 }

@@ -1,10 +1,6 @@
--- The run as far as the serial that was seen last; serials are bounded.
-use Rattle.std.proofs.Common.{◌-◌, ◌^◌}
+-- The run below the serial that comes next.
 use Rattle.journal.specs.Survey.{Running}
 use Rattle.journal.proofs.survey.run_end.Given as goal
 
-abbrev pub invariant-loop-next : goal.invariant-loop-next
-invariant-loop-next l = Running l.notes l.low l.end l.serial
-
-abbrev pub decreases-loop-next : goal.decreases-loop-next
-decreases-loop-next l = 2 ^ 63 - l.serial
+abbrev pub invariant-loop-serial : goal.invariant-loop-serial
+invariant-loop-serial l = Running l.notes l.fn.mark.head.serial l.end l.serial

@@ -1,13 +1,11 @@
 -- Each turn clears one place more, or passes it over.
-use Rattle.std.proofs.Common.{◌≡◌, ◌<◌, ◌≤◌, length, arith}
+use Rattle.std.proofs.Common.{◌≡◌, None, length, get_or, ◌∙◌}
 use Rattle.std.proofs.lemmas.Result.{err_from_is_err_and}
-use Rattle.std.proofs.lemmas.Bool.{lt-ltb, le-ltb}
-use Rattle.journal.specs.Log.{said}
 use Rattle.recovery.specs.Clearing.{astray, blanking}
 use Rattle.journal.specs.Opening.{strays}
-use Rattle.recovery.proofs.Strays.{clear_begins, clear_writes, clear_passes, clear_cut, clear_ends, yields_cut}
+use Rattle.recovery.proofs.Strays.{noted_astray, clear_begins, clear_writes, clear_passes, clear_cut, clear_ends, yields_cut}
 use Rattle.recovery.proofs.clearing.blank_strays.Goals as goal
-use Rattle.recovery.proofs.clearing.blank_strays.Goals.{then-notes-place+in_ok-write, else-notes-place}
+use Rattle.recovery.proofs.clearing.blank_strays.Goals.{then-is_stray+in_ok-write, else-is_stray}
 
 pub loop-place-init : goal.loop-place-init
 loop-place-init g c = clear_begins (g.D.Device.disk c.args.device.now) (length c.args.notes.now) c.args.last
@@ -19,9 +17,7 @@ returns-in_err-write g c =
     let e = g.D.Device.disk c.write.new.self in
     let n = length c.args.notes.now in
     let i = c.loop-place.place in
-    let note = c.requires.noted.each i c.loop-place-test.true in
-    let above : c.args.last < (said n i (d.shows i)).serial = omega (arith, c.if-notes-place.true, note.serial) in
-    let t = lt-ltb c.args.last (said n i (d.shows i)).serial above in
+    let t = noted_astray n d.shows c.args.last i (get_or c.args.notes.now i None) c.is_stray.result (c.requires.noted.each i c.loop-place-test.true) c.is_stray.ensures ∙ c.if-is_stray.true in
     let p = err_from_is_err_and c.from_residual.result c.from_residual.ensures.1 in
     let f = c.in_err-write.field-0.0 in
     rw (p.1, p.2)
@@ -34,18 +30,14 @@ loop-place-preserved g c =
     let m = g.D.Device.disk c.loop-place.device in
     let n = length c.args.notes.now in
     let i = c.loop-place.place in
-    let note = c.requires.noted.each i c.loop-place-test.true in
-    elim c.if-notes-place.branch [
-      | then-notes-place+in_ok-write w ↦
-          let above : c.args.last < (said n i (d.shows i)).serial = omega (arith, w.if-notes-place.true, note.serial) in
-          let t = lt-ltb c.args.last (said n i (d.shows i)).serial above in
-          let r = clear_writes d m (g.D.Device.disk w.write.new.self) n c.args.last i c.loop-place.count c.loop-place-test.true t c.loop-place.invariant w.in_ok-write.ensures in
-          rw (w.device-is, w.count-is) r
-      | else-notes-place w ↦
-          let under : (said n i (d.shows i)).serial ≤ c.args.last = omega (arith, w.if-notes-place.false, note.serial) in
-          let t = le-ltb c.args.last (said n i (d.shows i)).serial under in
-          let r = clear_passes d m n c.args.last i c.loop-place.count c.loop-place-test.true t c.loop-place.invariant in
-          rw (w.device-is, w.count-is) r
+    let test = noted_astray n d.shows c.args.last i (get_or c.args.notes.now i None) c.is_stray.result (c.requires.noted.each i c.loop-place-test.true) c.is_stray.ensures in
+    elim c.if-is_stray.branch [
+      | then-is_stray+in_ok-write w ↦
+          rw (w.device-is, w.count-is)
+          (clear_writes d m (g.D.Device.disk w.write.new.self) n c.args.last i c.loop-place.count c.loop-place-test.true (test ∙ w.if-is_stray.true) c.loop-place.invariant w.in_ok-write.ensures)
+      | else-is_stray w ↦
+          rw (w.device-is, w.count-is)
+          (clear_passes d m n c.args.last i c.loop-place.count c.loop-place-test.true (test ∙ w.if-is_stray.false) c.loop-place.invariant)
     ]
 
 pub returns : goal.returns

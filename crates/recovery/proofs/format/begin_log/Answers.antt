@@ -12,6 +12,6 @@ returns g c =
     let m = g.D.Device.disk c.barrier.new.self in
     let n = g.D.Device.disk c.write_mark.new.device in
     let e = g.D.Device.disk c.barrier-2.new.self in
-    let w = wrote (1 % c.args.places) (laid_out (mark first)) in
+    let w = wrote (1 % c.args.places.count) (laid_out (mark first)) in
     tries_next d m e settled (w ∷ settled ∷ []) c.barrier-2.result c.in_ok-barrier.ensures
     (tries_after m n e (w ∷ []) (settled ∷ []) c.barrier-2.result c.in_ok-write_mark.ensures (barrier_tried n e c.barrier-2.result c.barrier-2.ensures))

@@ -12,26 +12,26 @@ pub returns-in_err-blank_all : goal.returns-in_err-blank_all
 returns-in_err-blank_all g c =
     let d = g.D.Device.disk c.args.device.now in
     let m = g.D.Device.disk c.blank_all.new.device in
-    let n = c.args.places in
+    let n = c.args.places.count in
     let p = err_from_is_err_and c.from_residual.result c.from_residual.ensures.1 in
     rw (p.1, p.2)
     (plan_cut d d m (formatting n) (restarted ∷ zeroing 0 (n + 64)) (settled ∷ wrote (1 % n) (laid_out (mark first)) ∷ settled ∷ []) c.in_err-blank_all.field-0.0 (work_begins d (formatting n))
-    (subst (λ (k : ℕ). Tries d (restarted ∷ zeroing 0 k) (Err c.in_err-blank_all.field-0.0) m) c.requires.homes c.in_err-blank_all.ensures))
+    (subst (λ (k : ℕ). Tries d (restarted ∷ zeroing 0 k) (Err c.in_err-blank_all.field-0.0) m) c.sectors.ensures c.in_err-blank_all.ensures))
 
 pub begin_log-requires : goal.begin_log-requires
 begin_log-requires g c =
     let d = g.D.Device.disk c.args.device.now in
     let m = g.D.Device.disk c.blank_all.new.device in
-    let same = done_plate d m (restarted ∷ zeroing 0 c.args.sectors) c.in_ok-blank_all.ensures in
-    let here : c.args.places ≤ d.plate.sectors = omega (arith, c.requires.homes, c.requires.whole) in
-    record { some = c.requires.some; room = subst (λ (q : Plate). c.args.places ≤ q.sectors) (sym same) here }
+    let same = done_plate d m (restarted ∷ zeroing 0 c.sectors.result) c.in_ok-blank_all.ensures in
+    let here : c.args.places.count + 64 ≤ d.plate.sectors = omega (arith, c.requires) in
+    subst (λ (q : Plate). c.args.places.count + 64 ≤ q.sectors) (sym same) here
 
 pub returns : goal.returns
 returns g c =
     let d = g.D.Device.disk c.args.device.now in
     let m = g.D.Device.disk c.blank_all.new.device in
     let e = g.D.Device.disk c.begin_log.new.device in
-    let n = c.args.places in
+    let n = c.args.places.count in
     tries_after d m e (restarted ∷ zeroing 0 (n + 64)) (settled ∷ wrote (1 % n) (laid_out (mark first)) ∷ settled ∷ []) c.begin_log.result
-    (subst (λ (k : ℕ). Done d (restarted ∷ zeroing 0 k) m) c.requires.homes c.in_ok-blank_all.ensures)
+    (subst (λ (k : ℕ). Done d (restarted ∷ zeroing 0 k) m) c.sectors.ensures c.in_ok-blank_all.ensures)
     c.begin_log.ensures

@@ -4,4 +4,4 @@ use Rattle.recovery.proofs.reading.replay.Given as goal
 
 abbrev pub invariant-loop-serial : goal.invariant-loop-serial
 invariant-loop-serial g l =
-    ReplayedTo l.places (g.D.Device.disk l.initial.device) (g.D.Device.disk l.device) l.low l.serial l.initial.memory l.memory
+    ReplayedTo l.places.count (g.D.Device.disk l.initial.device) (g.D.Device.disk l.device) l.low l.serial l.initial.memory l.memory
