@@ -11,10 +11,9 @@ use Rattle.journal.specs.Log.{log as log_of}
 use Rattle.durability.specs.Items.{Item, recorded}
 use Rattle.transactions.specs.declared.log.Log.{Log}
 use Rattle.transactions.specs.declared.pages.Pages.{Pages}
-use Rattle.transactions.specs.declared.spool.Spool.{Spool}
 use Rattle.transactions.specs.declared.state.State.{State}
 use Rattle.transactions.specs.Pages.{flag, Flags, Noted, FoundFirst, FoundWaiting, Found}
-use Rattle.transactions.specs.Parts.{waiting}
+use Rattle.transactions.specs.Parts.{Spool, waiting}
 use Rattle.transactions.specs.State.{live}
 use Rattle.transactions.specs.Truncation.{names, covers, in_log, in_items, said_of}
 

@@ -1,6 +1,7 @@
 -- What a truncation found, as lists of pages, and what its tests say together.
-use Rattle.std.proofs.Common.{◌≡◌, ℕ, zero, suc, ◌<◌, ◌≤◌, Bool, true, false, cond, not, ltb, leb, ◌≢◌, List, [], ◌∷◌, map, length, take, None, Err, refl, ap, ◌∙◌, subst, inr, ⊎_elim, arith}
+use Rattle.std.proofs.Common.{◌≡◌, ℕ, ◌<◌, ◌≤◌, Bool, true, false, cond, not, ltb, leb, ◌≢◌, List, [], ◌∷◌, map, length, None, Err, refl, ap, ◌∙◌, subst, inr, ⊎_elim, arith}
 use Rattle.std.proofs.lemmas.Bool.{cases_lt, eq-eqb}
+use Rattle.arrayvec.specs.ArrayVec.{array_vec_len}
 use Rattle.device.specs.declared.fault.DeviceFault.{DeviceFault}
 use Rattle.device.specs.declared.fault.DeviceFault.TheVariants.{Power, Misaddressed, Unfit, Spoiled}
 use Rattle.device.specs.Disk.{Disk, Shown, Among}
@@ -9,11 +10,10 @@ use Rattle.journal.specs.Log.{log}
 use Rattle.durability.specs.Items.{Item, recorded}
 use Rattle.transactions.specs.declared.fault.StoreFault.TheVariants.{Device}
 use Rattle.transactions.specs.declared.pages.Pages.{Pages}
-use Rattle.transactions.specs.declared.spool.Spool.{Spool}
 use Rattle.transactions.specs.declared.spool.Spooled.{Spooled}
 use Rattle.transactions.specs.declared.state.State.{State}
 use Rattle.transactions.specs.Pages.{flag, Flags, needed, Found}
-use Rattle.transactions.specs.Parts.{item_of, waiting}
+use Rattle.transactions.specs.Parts.{Spool, item_of, waiting}
 use Rattle.transactions.specs.Rows.{first_fit}
 use Rattle.transactions.specs.State.{live, spooled}
 use Rattle.transactions.specs.Truncation.{names, in_log, in_items, is_dirty, is_due, chosen, dirty_pages, due_pages, crowded, truncating, truncation, PagesAnswer}
@@ -37,13 +37,12 @@ plan_is s shows ps due k f =
     ∙ ap (λ (xs : List ℕ). truncating s (due_pages s shows) xs) (dirty_is s shows ps k)
 
 -- a part that waits names a page
-first_waits : (s : Spool) → 1 ≤ s.count → (x : Spooled) × (rest : List Item) × (waiting s ≡ item_of x ∷ rest)
-first_waits s h = go s.items s.count h (omega (arith, s.sized))
+first_waits : (s : Spool) → 1 ≤ array_vec_len s → (x : Spooled) × (rest : List Item) × (waiting s ≡ item_of x ∷ rest)
+first_waits s h = go s.items h
   where
-    go : (xs : List Spooled) (k : ℕ) → 1 ≤ k → 1 ≤ length xs → (x : Spooled) × (rest : List Item) × (map item_of (take k xs) ≡ item_of x ∷ rest)
-    go [] k a b = absurd (omega arith)
-    go (x ∷ xs) zero a b = absurd (omega arith)
-    go (x ∷ xs) (suc k) a b = (x, map item_of (take k xs), refl)
+    go : (xs : List Spooled) → 1 ≤ length xs → (x : Spooled) × (rest : List Item) × (map item_of xs ≡ item_of x ∷ rest)
+    go [] a = absurd (omega arith)
+    go (x ∷ xs) a = (x, map item_of xs, refl)
 
 named_part : (x : Spooled) → names (recorded 0 0 (item_of x)) x.page ≡ true
 named_part x = let t = eq-eqb x.page x.page refl in rw t (kind x.last)
@@ -56,7 +55,7 @@ or_true : (a : Bool) → cond a true true ≡ true
 or_true true = refl
 or_true false = refl
 
-first_dirty : (s : State) (shows : ℕ → Shown) → 1 ≤ s.spool.count → (p : ℕ) × Among p (dirty_pages s shows)
+first_dirty : (s : State) (shows : ℕ → Shown) → 1 ≤ array_vec_len s.spool → (p : ℕ) × Among p (dirty_pages s shows)
 first_dirty s shows h =
     let w = first_waits s.spool h in
     let x = w.0 in
@@ -65,12 +64,12 @@ first_dirty s shows h =
     let live? = in_log names (log s.log.places shows) s.log.low (live s) x.page in
     (x.page, chosen_has (is_dirty s shows) 0 64 x.page (omega arith) (omega (arith, x.paged)) (ap (λ (b : Bool). cond live? true b) says ∙ or_true live?))
 
-pub nothing_waits : (s : State) (shows : ℕ → Shown) → dirty_pages s shows ≡ [] → s.spool.count ≡ 0
+pub nothing_waits : (s : State) (shows : ℕ → Shown) → dirty_pages s shows ≡ [] → array_vec_len s.spool ≡ 0
 nothing_waits s shows e =
     ⊎_elim
-    (λ (h : s.spool.count < 1). omega arith)
-    (λ (h : 1 ≤ s.spool.count). let w = first_dirty s shows h in absurd (subst (λ (ps : List ℕ). Among w.0 ps) e w.1))
-    (cases_lt s.spool.count 1)
+    (λ (h : length s.spool.items < 1). omega arith)
+    (λ (h : 1 ≤ length s.spool.items). let w = first_dirty s shows h in absurd (subst (λ (ps : List ℕ). Among w.0 ps) e w.1))
+    (cases_lt (length s.spool.items) 1)
 
 pub none_raised : (ps : List ℕ) → length ps ≡ 0 → ps ≡ []
 none_raised [] h = refl

@@ -5,9 +5,8 @@ use Rattle.device.specs.Disk.{Shown}
 use Rattle.journal.specs.Log.{log as log_of}
 use Rattle.transactions.specs.declared.log.Log.{Log}
 use Rattle.transactions.specs.declared.pages.Pages.{Pages}
-use Rattle.transactions.specs.declared.spool.Spool.{Spool}
 use Rattle.transactions.specs.declared.state.State.{State}
-use Rattle.transactions.specs.Parts.{waiting}
+use Rattle.transactions.specs.Parts.{Spool, waiting}
 use Rattle.transactions.specs.Truncation.{names, covers, in_log, in_items, said_of}
 
 -- The flag of page p.

@@ -1,5 +1,6 @@
 // The calls that write, over the device and the state.
 ghost use Rattle.std.specs.Prelude.{◌≡◌, ◌+◌, ◌≤◌, true, ◌≢◌, [], ◌++◌, None};
+ghost use Rattle.arrayvec.specs.ArrayVec.{array_vec_len};
 ghost use Rattle.device.specs.Disk.{Disk};
 ghost use Rattle.device.specs.Trace.{Tries};
 ghost use Rattle.image.specs.Calls.{declared};
@@ -25,11 +26,11 @@ pub(crate) fn flush_out<D: Device>(device: &mut D, state: &State) -> Result<(), 
 // Writes all that waits and then the pieces of the transaction, and settles them.
 fn commit_out<D: Device>(device: &mut D, state: &State, pieces: &Pieces) -> Result<(), DeviceFault>
     requires pieces { PiecesOf state.now pieces.now }
-    requires passes { first_fit (commit_rows state.now pieces.now.count true) ≡ None }
+    requires passes { first_fit (commit_rows state.now (array_vec_len pieces.now) true) ≡ None }
     ensures { OnLog state.now (D.Device.disk device.old) → Tries (D.Device.disk device.old) (writing state.now (spooled state.now ++ own state.now)) result (D.Device.disk device.new) }
 {
     write_spool(device, &state.log, &state.spool)?;
-    let last = state.log.last + state.spool.count as u64;
+    let last = state.written_to();
     write_pieces(device, &state.log, last, &state.image.memory, pieces)?;
     device.barrier()
 }
@@ -39,7 +40,7 @@ pub(crate) fn flush_store<D: Device>(device: &mut D, state: &mut State) -> Resul
     ensures { LiesOn state.old (D.Device.disk device.old) → Flushes state.old (D.Device.disk device.old) result state.new (D.Device.disk device.new) }
 {
     state.awake()?;
-    if state.spool.count == 0 {
+    if state.spool.is_empty() {
         return Ok(0);
     }
     state.on = false;
@@ -54,7 +55,7 @@ fn commit_flushed<D: Device>(
     pieces: &Pieces,
 ) -> Result<(u64, usize), StoreFault>
     requires pieces { PiecesOf state.old pieces.now }
-    requires passes { first_fit (commit_rows state.old pieces.now.count true) ≡ None }
+    requires passes { first_fit (commit_rows state.old (array_vec_len pieces.now) true) ≡ None }
     requires some { declared state.old.image ≢ [] }
     ensures { OnLog state.old (D.Device.disk device.old) → PartsAnswer state.old (D.Device.disk device.old) true result state.new (D.Device.disk device.new) }
 {
@@ -75,7 +76,7 @@ fn commit_pieces<D: Device>(
     requires on { state.old.on ≡ true }
     ensures { OnLog state.old (D.Device.disk device.old) → PiecesAnswer state.old (D.Device.disk device.old) flush result state.new (D.Device.disk device.new) }
 {
-    if let Err(fault) = state.may_commit(pieces.count, flush) {
+    if let Err(fault) = state.may_commit(pieces, flush) {
         state.undo();
         return Err(fault);
     }

@@ -11,7 +11,7 @@ use crate::log::Log;
 use crate::pages::PAGES;
 use device::{Device, DeviceFault};
 use image::{MEMORY, PAGE};
-use record::{Head, Record};
+use record::Record;
 use recovery::write_record;
 
 // Writes the page record of a page, with this serial.
@@ -26,13 +26,8 @@ fn write_page<D: Device>(
     ensures { log.now.places ≤ (D.Device.disk device.old).plate.sectors → Tries (D.Device.disk device.old) (wrote (serial % log.now.places) (laid_out (recorded log.now.low serial (page_item log.now.ordinal memory.now page))) ∷ []) result (D.Device.disk device.new) }
 {
     let start = page * PAGE;
-    let head = Head {
-        serial,
-        low: log.low,
-        ordinal: log.ordinal,
-    };
     let record = Record::Page {
-        head,
+        head: log.head(serial, log.ordinal),
         page: page as u16,
         bytes: &memory[start..start + PAGE],
     };

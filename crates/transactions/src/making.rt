@@ -18,7 +18,7 @@ pub(crate) fn off() -> State
 {
     State {
         image: Image::zeros(),
-        spool: Spool::empty(),
+        spool: Spool::new(),
         log: Log {
             places: 160,
             low: 0,

@@ -75,9 +75,8 @@ fn note_log<D: Device>(device: &mut D, log: &Log, pages: &mut Pages) -> Result<(
     requires { log.now.last < 2 ^ 63 }
     ensures { log.now.places ≤ (D.Device.disk device.old).plate.sectors → Looks (D.Device.disk device.old) (λ _. FoundLive log.now (D.Device.disk device.old).shows pages.old pages.new) result (D.Device.disk device.new) }
 {
-    let live = (log.last + 1).saturating_sub(log.low);
-    for i in 0..live {
-        note_live(device, log.places, log.low + i, pages)?;
+    for serial in log.low..log.last + 1 {
+        note_live(device, log.places, serial, pages)?;
     }
     Ok(())
 }
@@ -94,8 +93,8 @@ fn note_part(pages: &mut Pages, item: &Spooled)
 fn note_spool(spool: &Spool, pages: &mut Pages)
     ensures { FoundWaiting spool.now pages.old pages.new }
 {
-    for i in 0..spool.count {
-        note_part(pages, &spool.items[i]);
+    for item in spool.iter() {
+        note_part(pages, item);
     }
 }
 

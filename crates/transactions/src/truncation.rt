@@ -1,5 +1,6 @@
 // Truncation: dirty pages go home, and the log begins anew.
 ghost use Rattle.std.specs.Prelude.{◌+◌, ◌^◌, ◌<◌, ◌≤◌};
+ghost use Rattle.arrayvec.specs.ArrayVec.{array_vec_len};
 ghost use Rattle.device.specs.Trace.{Tries};
 ghost use Rattle.durability.specs.Promises.{marking};
 ghost use Rattle.transactions.specs.Pages.{flag, Found};
@@ -20,7 +21,7 @@ use recovery::write_record;
 fn flush_waiting<D: Device>(device: &mut D, state: &State) -> Result<(), DeviceFault>
     ensures { OnLog state.now (D.Device.disk device.old) → Tries (D.Device.disk device.old) (flushing state.now) result (D.Device.disk device.new) }
 {
-    if state.spool.count == 0 {
+    if state.spool.is_empty() {
         return Ok(());
     }
     flush_out(device, state)
@@ -28,11 +29,16 @@ fn flush_waiting<D: Device>(device: &mut D, state: &State) -> Result<(), DeviceF
 
 // Writes page records of these pages after what waited, and settles them.
 fn cover<D: Device>(device: &mut D, state: &State, due: &[bool; PAGES]) -> Result<(), DeviceFault>
-    requires { state.now.log.last + state.now.spool.count + 65 < 2 ^ 63 }
+    requires { state.now.log.last + array_vec_len state.now.spool + 65 < 2 ^ 63 }
     ensures { OnLog state.now (D.Device.disk device.old) → Tries (D.Device.disk device.old) (covering state.now (chosen (flag due.now) 0 64)) result (D.Device.disk device.new) }
 {
-    let last = state.log.last + state.spool.count as u64;
-    write_pages(device, &state.log, last, &state.image.memory, due)?;
+    write_pages(
+        device,
+        &state.log,
+        state.written_to(),
+        &state.image.memory,
+        due,
+    )?;
     device.barrier()
 }
 
@@ -51,10 +57,10 @@ fn go_home<D: Device>(
 // Writes the mark at which the log begins anew after so many page records, and settles it.
 fn mark_anew<D: Device>(device: &mut D, state: &State, due: usize) -> Result<(), DeviceFault>
     requires few { due ≤ 64 }
-    requires bounded { state.now.log.last + state.now.spool.count + 65 < 2 ^ 63 }
+    requires bounded { state.now.log.last + array_vec_len state.now.spool + 65 < 2 ^ 63 }
     ensures { OnLog state.now (D.Device.disk device.old) → Tries (D.Device.disk device.old) (marking state.now.log.places (covered_to state.now due) state.now.log.ordinal) result (D.Device.disk device.new) }
 {
-    let serial = state.log.last + state.spool.count as u64 + due as u64 + 1;
+    let serial = state.written_to() + due as u64 + 1;
     let head = Head {
         serial,
         low: serial,
@@ -71,7 +77,7 @@ fn truncate_out<D: Device>(
     dirty: &[bool; PAGES],
     due: &[bool; PAGES],
 ) -> Result<(), DeviceFault>
-    requires { state.now.log.last + state.now.spool.count + 65 < 2 ^ 63 }
+    requires { state.now.log.last + array_vec_len state.now.spool + 65 < 2 ^ 63 }
     ensures { OnLog state.now (D.Device.disk device.old) → Tries (D.Device.disk device.old) (truncating state.now (chosen (flag due.now) 0 64) (chosen (flag dirty.now) 0 64)) result (D.Device.disk device.new) }
 {
     flush_waiting(device, state)?;
@@ -86,7 +92,7 @@ fn truncate_pages<D: Device>(
     state: &mut State,
     pages: &Pages,
 ) -> Result<usize, StoreFault>
-    requires { state.old.log.last + state.old.spool.count + 65 < 2 ^ 63 }
+    requires { state.old.log.last + array_vec_len state.old.spool + 65 < 2 ^ 63 }
     ensures { OnLog state.old (D.Device.disk device.old) → Found state.old (D.Device.disk device.old).shows pages.now → PagesAnswer state.old (D.Device.disk device.old) result state.new (D.Device.disk device.new) }
 {
     let due = due_of(pages);

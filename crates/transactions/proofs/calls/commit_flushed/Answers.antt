@@ -2,6 +2,7 @@
 use Rattle.std.proofs.Common.{true, ◌++◌, refl, arith}
 use Rattle.std.proofs.lemmas.Result.{err_from_is_err_and}
 use Rattle.transactions.specs.State.{spooled, own}
+use Rattle.arrayvec.specs.ArrayVec.{array_vec_len}
 use Rattle.transactions.proofs.Plans.{roomy, writing_cut, some_pieces, passes_own}
 use Rattle.transactions.proofs.calls.commit_flushed.Goals as goal
 
@@ -22,7 +23,7 @@ committed-requires g c =
     let s = c.args.state.now in
     let ps = c.args.pieces.now in
     record {
-      bounded = omega (arith, (roomy s ps.count true c.requires.passes).serials);
+      bounded = omega (arith, (roomy s (array_vec_len ps) true c.requires.passes).serials);
       some = some_pieces s ps c.requires.pieces c.requires.some;
       pieces = c.requires.pieces;
     }

@@ -1,9 +1,10 @@
 -- What waits is written, then the pieces, and then there is a barrier.
-use Rattle.std.proofs.Common.{◌≤◌, true, List, [], ◌∷◌, ◌++◌, Err, sym, ap, subst, arith}
+use Rattle.std.proofs.Common.{ℕ, ◌≤◌, true, List, [], ◌∷◌, ◌++◌, Err, sym, ap, subst, arith}
 use Rattle.std.proofs.lemmas.Result.{err_from_is_err_and}
-use Rattle.device.specs.Trace.{Act, settled, Tries}
+use Rattle.device.specs.Trace.{Act, settled, Done, Tries}
 use Rattle.device.proofs.Plans.{tries_after, done_plate}
-use Rattle.transactions.proofs.Plans.{on_device, spool_plan, piece_plan, commit_plan, cut_first, then_settled, roomy, pieces_fit}
+use Rattle.arrayvec.specs.ArrayVec.{array_vec_len}
+use Rattle.transactions.proofs.Plans.{on_device, spool_plan, pieces_after, piece_plan, commit_plan, cut_first, then_settled, roomy, pieces_fit}
 use Rattle.transactions.proofs.calls.commit_out.Goals as goal
 
 pub returns-in_err-write_spool : goal.returns-in_err-write_spool
@@ -21,7 +22,7 @@ returns-in_err-write_spool g c h =
 pub write_pieces-requires : goal.write_pieces-requires
 write_pieces-requires g c =
     let s = c.args.state.now in
-    let room = roomy s c.args.pieces.now.count true c.requires.passes in
+    let room = roomy s (array_vec_len c.args.pieces.now) true c.requires.passes in
     record {
       bounded = omega (arith, room.serials);
       numbered = omega (arith, s.numbered, s.bounded);
@@ -42,7 +43,7 @@ returns-in_err-write_pieces g c h =
     rw (p.1, p.2)
     (subst (λ (plan : List Act). Tries d plan (Err f) e) (sym (commit_plan s ps c.requires.pieces))
     (tries_after d m e (spool_plan s) (piece_plan s ps ++ (settled ∷ [])) (Err f) first
-    (cut_first m e (piece_plan s ps) (settled ∷ []) f (c.in_err-write_pieces.ensures room))))
+    (cut_first m e (piece_plan s ps) (settled ∷ []) f (subst (λ (k : ℕ). Tries m (pieces_after s ps k) (Err f) e) c.written_to-last.ensures (c.in_err-write_pieces.ensures room)))))
 
 pub returns : goal.returns
 returns g c h =
@@ -57,4 +58,4 @@ returns g c h =
     let room : s.log.places ≤ m.plate.sectors = omega (arith, on_device s d h, ap (λ v. v.sectors) (done_plate d m (spool_plan s) first)) in
     subst (λ (plan : List Act). Tries d plan r e) (sym (commit_plan s ps c.requires.pieces))
     (tries_after d m e (spool_plan s) (piece_plan s ps ++ (settled ∷ [])) r first
-    (then_settled m k e (piece_plan s ps) r (c.in_ok-write_pieces.ensures room) c.barrier.ensures))
+    (then_settled m k e (piece_plan s ps) r (subst (λ (last : ℕ). Done m (pieces_after s ps last) k) c.written_to-last.ensures (c.in_ok-write_pieces.ensures room)) c.barrier.ensures))
