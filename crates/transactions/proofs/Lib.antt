@@ -5,3 +5,4 @@ pub mod Flagging
 pub mod Noting
 pub mod Going
 pub mod Truncating
+pub mod Lying
