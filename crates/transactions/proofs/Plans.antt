@@ -1,5 +1,5 @@
 -- What a flush and a commit write, and what their tests let through.
-use Rattle.std.proofs.Common.{◌≡◌, ℕ, suc, ◌+◌, ◌-◌, ◌^◌, ◌<◌, ◌≤◌, Bool, true, false, cond, not, ltb, ◌≢◌, List, [], ◌∷◌, ◌++◌, length, Some, None, Err, Option, sym, refl, ap, ◌∙◌, subst, ⊎_elim, add-zero, arith}
+use Rattle.std.proofs.Common.{◌≡◌, ℕ, suc, ◌+◌, ◌-◌, ◌^◌, ◌<◌, ◌≤◌, Bool, true, false, cond, not, ltb, ◌≢◌, List, [], ◌∷◌, ◌++◌, map, length, Some, None, Err, Option, sym, refl, ap, ◌∙◌, subst, ⊎_elim, add-zero, arith}
 use Rattle.std.proofs.lemmas.Bool.{cases_lt, ltb-false}
 use Rattle.arrayvec.specs.ArrayVec.{ArrayVec, array_vec_len}
 use Rattle.device.specs.declared.fault.DeviceFault.{DeviceFault}
@@ -23,6 +23,7 @@ use Rattle.transactions.specs.Rows.{Row, first_fit, off, serials, full, spool_fu
 use Rattle.transactions.specs.State as state
 use Rattle.transactions.specs.State.{live, OnLog}
 use Rattle.transactions.specs.Steps.{PiecesOf}
+use Rattle.transactions.specs.Truncation.{page_item}
 use Rattle.transactions.proofs.Loops.{own_is, length_waiting, length_of_own, written_as}
 
 -- a log with its homes lies on the device
@@ -49,6 +50,9 @@ spool_plan s = appending s.log.places s.log.low s.log.last (waiting s.spool)
 
 abbrev pub pieces_after : State → ArrayVec Piece → ℕ → List Act
 pieces_after s ps last = appending s.log.places s.log.low last (parts (s.log.ordinal + 1) s.image.memory ps.items)
+
+abbrev pub pages_after : State → ℕ → List ℕ → List Act
+pages_after s last ps = appending s.log.places s.log.low last (map (page_item s.log.ordinal s.image.memory) ps)
 
 abbrev pub piece_plan : State → ArrayVec Piece → List Act
 piece_plan s ps = pieces_after s ps (s.log.last + array_vec_len s.spool)

@@ -1,6 +1,6 @@
 -- What a truncation found, as lists of pages, and what its tests say together.
-use Rattle.std.proofs.Common.{◌≡◌, ℕ, ◌<◌, ◌≤◌, Bool, true, false, cond, not, ltb, leb, ◌≢◌, List, [], ◌∷◌, map, length, None, Err, refl, ap, ◌∙◌, subst, inr, ⊎_elim, arith}
-use Rattle.std.proofs.lemmas.Bool.{cases_lt, eq-eqb}
+use Rattle.std.proofs.Common.{◌≡◌, ℕ, ◌<◌, ◌≤◌, Bool, true, false, cond, not, eqb, ltb, leb, ◌≢◌, List, [], ◌∷◌, map, length, None, Err, refl, ap, ◌∙◌, subst, inr, ⊎_elim, arith}
+use Rattle.std.proofs.lemmas.Bool.{cases_lt, eq-eqb, eqb-false}
 use Rattle.arrayvec.specs.ArrayVec.{array_vec_len}
 use Rattle.device.specs.declared.fault.DeviceFault.{DeviceFault}
 use Rattle.device.specs.declared.fault.DeviceFault.TheVariants.{Power, Misaddressed, Unfit, Spoiled}
@@ -9,32 +9,31 @@ use Rattle.device.specs.Trace.{Tries}
 use Rattle.journal.specs.Log.{log}
 use Rattle.durability.specs.Items.{Item, recorded}
 use Rattle.transactions.specs.declared.fault.StoreFault.TheVariants.{Device}
-use Rattle.transactions.specs.declared.pages.Pages.{Pages}
+use Rattle.transactions.specs.declared.pages.Page.{Page}
+use Rattle.transactions.specs.declared.pages.Dirty.{Dirty}
 use Rattle.transactions.specs.declared.spool.Spooled.{Spooled}
 use Rattle.transactions.specs.declared.state.State.{State}
-use Rattle.transactions.specs.Pages.{flag, Flags, needed, Found}
+use Rattle.transactions.specs.Pages.{named_in, covered_in, needed, Found, FoundDirty}
 use Rattle.transactions.specs.Parts.{Spool, item_of, waiting}
 use Rattle.transactions.specs.Rows.{first_fit}
 use Rattle.transactions.specs.State.{live, spooled}
 use Rattle.transactions.specs.Truncation.{names, in_log, in_items, is_dirty, is_due, chosen, dirty_pages, due_pages, crowded, truncating, truncation, PagesAnswer}
 use Rattle.transactions.proofs.Flagging.{chosen_same, chosen_has}
 
--- the flags choose the dirty pages and those that are due
-pub dirty_is : (s : State) (shows : ℕ → Shown) (ps : Pages) → Found s shows ps → chosen (flag ps.named) 0 64 ≡ dirty_pages s shows
-dirty_is s shows ps k = chosen_same (flag ps.named) (is_dirty s shows) 0 64 64 (omega arith) k.named
+-- what is noted chooses the dirty pages and those that are due
+pub dirty_is : (s : State) (shows : ℕ → Shown) (ps : List Page) → Found s shows ps → chosen (named_in ps) 0 64 ≡ dirty_pages s shows
+dirty_is s shows ps k = chosen_same (named_in ps) (is_dirty s shows) 0 64 64 (omega arith) k.named
 
-pub due_is : (s : State) (shows : ℕ → Shown) (ps : Pages) (due : List Bool) → Found s shows ps → Flags due (needed ps) → chosen (flag due) 0 64 ≡ due_pages s shows
-due_is s shows ps due k f =
-    chosen_same (flag due) (is_due s shows) 0 64 64 (omega arith)
+pub due_is : (s : State) (shows : ℕ → Shown) (ps : List Page) → Found s shows ps → chosen (needed ps) 0 64 ≡ due_pages s shows
+due_is s shows ps k =
+    chosen_same (needed ps) (is_due s shows) 0 64 64 (omega arith)
     (λ p small.
-    f p small
-    ∙ ap (λ (b : Bool). cond b (not (flag ps.covered p)) false) (k.named p small)
+    ap (λ (b : Bool). cond b (not (covered_in ps p)) false) (k.named p small)
     ∙ ap (λ (b : Bool). cond (is_dirty s shows p) (not b) false) (k.covered p small))
 
-pub plan_is : (s : State) (shows : ℕ → Shown) (ps : Pages) (due : List Bool) → Found s shows ps → Flags due (needed ps) → truncating s (chosen (flag due) 0 64) (chosen (flag ps.named) 0 64) ≡ truncation s shows
-plan_is s shows ps due k f =
-    ap (λ (xs : List ℕ). truncating s xs (chosen (flag ps.named) 0 64)) (due_is s shows ps due k f)
-    ∙ ap (λ (xs : List ℕ). truncating s (due_pages s shows) xs) (dirty_is s shows ps k)
+pub plan_is : (s : State) (shows : ℕ → Shown) (x : Dirty) → FoundDirty s shows x → truncating s x.due.items x.pages.items ≡ truncation s shows
+plan_is s shows x k =
+    ap (λ (xs : List ℕ). truncating s xs x.pages.items) k.due ∙ ap (λ (xs : List ℕ). truncating s (due_pages s shows) xs) k.pages
 
 -- a part that waits names a page
 first_waits : (s : Spool) → 1 ≤ array_vec_len s → (x : Spooled) × (rest : List Item) × (waiting s ≡ item_of x ∷ rest)
@@ -70,6 +69,10 @@ nothing_waits s shows e =
     (λ (h : length s.spool.items < 1). omega arith)
     (λ (h : 1 ≤ length s.spool.items). let w = first_dirty s shows h in absurd (subst (λ (ps : List ℕ). Among w.0 ps) e w.1))
     (cases_lt (length s.spool.items) 1)
+
+-- where the list of dirty pages is not empty, some page is dirty
+pub some_dirty : (s : State) (shows : ℕ → Shown) (x : Dirty) → FoundDirty s shows x → eqb (length x.pages.items) 0 ≡ false → dirty_pages s shows ≢ []
+some_dirty s shows x k h none = eqb-false (length x.pages.items) 0 h (ap length k.pages ∙ ap length none)
 
 pub none_raised : (ps : List ℕ) → length ps ≡ 0 → ps ≡ []
 none_raised [] h = refl

@@ -1,18 +1,18 @@
 // Truncation: dirty pages go home, and the log begins anew.
-ghost use Rattle.std.specs.Prelude.{◌+◌, ◌^◌, ◌<◌, ◌≤◌};
+ghost use Rattle.std.specs.Prelude.{◌+◌, ◌^◌, ◌<◌, ◌≤◌, length, slice_index, EachIndex};
 ghost use Rattle.arrayvec.specs.ArrayVec.{array_vec_len};
 ghost use Rattle.device.specs.Trace.{Tries};
 ghost use Rattle.durability.specs.Promises.{marking};
-ghost use Rattle.transactions.specs.Pages.{flag, Found};
+ghost use Rattle.transactions.specs.Pages.{FoundDirty};
 ghost use Rattle.transactions.specs.State.{OnLog, LiesOn};
-ghost use Rattle.transactions.specs.Truncation.{chosen, flushing, covering, going_home, covered_to, truncating, PagesAnswer, Truncates};
+ghost use Rattle.transactions.specs.Truncation.{flushing, covering, going_home, covered_to, truncating, PagesAnswer, Truncates};
 
 use crate::calls::flush_out;
 use crate::fault::StoreFault;
 use crate::homes::{write_homes, write_pages};
-use crate::pages::{PAGES, Pages, count, due_of};
+use crate::pages::Dirty;
 use crate::state::State;
-use crate::surveying::find_pages;
+use crate::surveying::find_dirty;
 use device::{Device, DeviceFault};
 use record::{Head, Record};
 use recovery::write_record;
@@ -28,9 +28,10 @@ fn flush_waiting<D: Device>(device: &mut D, state: &State) -> Result<(), DeviceF
 }
 
 // Writes page records of these pages after what waited, and settles them.
-fn cover<D: Device>(device: &mut D, state: &State, due: &[bool; PAGES]) -> Result<(), DeviceFault>
-    requires { state.now.log.last + array_vec_len state.now.spool + 65 < 2 ^ 63 }
-    ensures { OnLog state.now (D.Device.disk device.old) → Tries (D.Device.disk device.old) (covering state.now (chosen (flag due.now) 0 64)) result (D.Device.disk device.new) }
+fn cover<D: Device>(device: &mut D, state: &State, due: &[usize]) -> Result<(), DeviceFault>
+    requires bounded { state.now.log.last + array_vec_len state.now.spool + length due.now < 2 ^ 63 }
+    requires inside { EachIndex due.now (λ i. slice_index due.now i < 64) }
+    ensures { OnLog state.now (D.Device.disk device.old) → Tries (D.Device.disk device.old) (covering state.now due.now) result (D.Device.disk device.new) }
 {
     write_pages(
         device,
@@ -43,14 +44,11 @@ fn cover<D: Device>(device: &mut D, state: &State, due: &[bool; PAGES]) -> Resul
 }
 
 // Writes these pages home, and settles them.
-fn go_home<D: Device>(
-    device: &mut D,
-    state: &State,
-    dirty: &[bool; PAGES],
-) -> Result<(), DeviceFault>
-    ensures { OnLog state.now (D.Device.disk device.old) → Tries (D.Device.disk device.old) (going_home state.now (chosen (flag dirty.now) 0 64)) result (D.Device.disk device.new) }
+fn go_home<D: Device>(device: &mut D, state: &State, pages: &[usize]) -> Result<(), DeviceFault>
+    requires { EachIndex pages.now (λ i. slice_index pages.now i < 64) }
+    ensures { OnLog state.now (D.Device.disk device.old) → Tries (D.Device.disk device.old) (going_home state.now pages.now) result (D.Device.disk device.new) }
 {
-    write_homes(device, state.log.places, &state.image.memory, dirty)?;
+    write_homes(device, state.log.places, &state.image.memory, pages)?;
     device.barrier()
 }
 
@@ -71,42 +69,35 @@ fn mark_anew<D: Device>(device: &mut D, state: &State, due: usize) -> Result<(),
 }
 
 // All that a truncation writes: what waits, page records, homes, and the mark.
-fn truncate_out<D: Device>(
-    device: &mut D,
-    state: &State,
-    dirty: &[bool; PAGES],
-    due: &[bool; PAGES],
-) -> Result<(), DeviceFault>
+fn truncate_out<D: Device>(device: &mut D, state: &State, dirty: &Dirty) -> Result<(), DeviceFault>
     requires { state.now.log.last + array_vec_len state.now.spool + 65 < 2 ^ 63 }
-    ensures { OnLog state.now (D.Device.disk device.old) → Tries (D.Device.disk device.old) (truncating state.now (chosen (flag due.now) 0 64) (chosen (flag dirty.now) 0 64)) result (D.Device.disk device.new) }
+    ensures { OnLog state.now (D.Device.disk device.old) → Tries (D.Device.disk device.old) (truncating state.now dirty.now.due.items dirty.now.pages.items) result (D.Device.disk device.new) }
 {
     flush_waiting(device, state)?;
-    cover(device, state, due)?;
-    go_home(device, state, dirty)?;
-    mark_anew(device, state, count(due))
+    cover(device, state, &dirty.due)?;
+    go_home(device, state, &dirty.pages)?;
+    mark_anew(device, state, dirty.due.len())
 }
 
-// Truncates, once it is known which pages are named and covered.
+// Truncates, once it is known which pages are dirty.
 fn truncate_pages<D: Device>(
     device: &mut D,
     state: &mut State,
-    pages: &Pages,
+    dirty: &Dirty,
 ) -> Result<usize, StoreFault>
     requires { state.old.log.last + array_vec_len state.old.spool + 65 < 2 ^ 63 }
-    ensures { OnLog state.old (D.Device.disk device.old) → Found state.old (D.Device.disk device.old).shows pages.now → PagesAnswer state.old (D.Device.disk device.old) result state.new (D.Device.disk device.new) }
+    ensures { OnLog state.old (D.Device.disk device.old) → FoundDirty state.old (D.Device.disk device.old).shows dirty.now → PagesAnswer state.old (D.Device.disk device.old) result state.new (D.Device.disk device.new) }
 {
-    let due = due_of(pages);
-    let records = count(&due);
+    let records = dirty.due.len();
     state.has_log(records)?;
     // What waits names a page, so that nothing waits where no page is named.
-    let dirty = count(&pages.named);
-    if dirty == 0 {
+    if dirty.pages.is_empty() {
         return Ok(0);
     }
     state.on = false;
-    truncate_out(device, state, &pages.named, &due)?;
+    truncate_out(device, state, dirty)?;
     state.truncated(records);
-    Ok(dirty)
+    Ok(dirty.pages.len())
 }
 
 // Writes dirty pages home and begins the log anew, where there are serials and log for that.
@@ -118,8 +109,8 @@ pub(crate) fn truncate_store<D: Device>(
 {
     state.may_begin()?;
     state.has_serials()?;
-    match find_pages(device, state) {
-        Ok(pages) => truncate_pages(device, state, &pages),
+    match find_dirty(device, state) {
+        Ok(dirty) => truncate_pages(device, state, &dirty),
         Err(fault) => {
             state.on = false;
             Err(StoreFault::Device(fault))
