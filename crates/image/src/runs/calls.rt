@@ -1,7 +1,7 @@
 // What is done with the runs.
-ghost use Rattle.std.specs.Prelude.{◌≡◌, ℕ, ◌<◌, ◌≤◌, [], length, if◌then◌else◌, slice_index};
+ghost use Rattle.std.specs.Prelude.{◌≡◌, ℕ, ◌<◌, ◌≤◌, [], slice_index};
 ghost use Rattle.image.specs.Calls.{listed, none, With, Reached};
-ghost use Rattle.image.specs.Runs.{is_declared};
+ghost use Rattle.image.specs.Runs.{Declared};
 ghost use Rattle.image.specs.Cut.{cut_runs};
 
 use super::{Pieces, Runs};
@@ -62,10 +62,9 @@ impl Runs {
         at
     }
 
-    // Copies the declared bytes.
+    // Copies the declared bytes: what differs in these alone is the same afterwards.
     pub(crate) fn copy(&self, source: &[u8; MEMORY], target: &mut [u8; MEMORY])
-        ensures size { length target.new ≡ 6144 }
-        ensures bytes { (i : ℕ) → slice_index target.new i ≡ (if is_declared (listed self.now) i then slice_index source.now i else slice_index target.old i) }
+        ensures { ((i : ℕ) → (Declared (listed self.now) i → ⊥) → slice_index source.now i ≡ slice_index target.old i) → target.new ≡ source.now }
     {
         for run in self.items.iter() {
             run.copy(source, target);

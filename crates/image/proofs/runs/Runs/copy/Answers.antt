@@ -5,7 +5,7 @@ use Rattle.image.specs.declared.run.Run.{Run}
 use Rattle.image.specs.Runs.{run}
 use Rattle.image.specs.Calls.{listed}
 use Rattle.image.proofs.Facts.{bounds}
-use Rattle.image.proofs.Copying.{copied, copied_is, over_is}
+use Rattle.image.proofs.Copying.{copied, copied_is, over_is, settled}
 use Rattle.image.proofs.runs.Runs.copy.Goals as goal
 
 pub copy-requires : goal.copy-requires
@@ -28,13 +28,12 @@ loop-run-preserved c =
     }
 
 pub returns : goal.returns
-returns c =
+returns c same =
+    let rs = listed c.args.self.now in
     let l = c.loop-run in
     let source = c.args.source.now in
     let e = drop_all l.run-index c.deref-run-items.result.now c.loop-run-test.false in
-    record {
-      size = l.invariant.size;
-      bytes = λ i.
-          ap (λ (rs : List Run). copied rs source i (get_or l.target i 0)) (sym e)
-          ∙ l.invariant.bytes i ∙ copied_is (listed c.args.self.now) source i (get_or c.args.target.now i 0);
-    }
+    settled rs source c.args.target.now l.target (l.invariant.size ∙ sym c.told-source) (λ i n. sym (same i n))
+    (λ i.
+    ap (λ (xs : List Run). copied xs source i (get_or l.target i 0)) (sym e)
+    ∙ l.invariant.bytes i ∙ copied_is rs source i (get_or c.args.target.now i 0))
