@@ -16,32 +16,21 @@ use Rattle.transactions.specs.Parts.{Spool, part, parts, item_of, waiting}
 use Rattle.transactions.specs.State as state
 use Rattle.transactions.specs.Steps.{PiecesOf}
 
--- A plan was begun on a device with so many sectors, and this is left. That it has them is a premise, as in
--- the contracts.
-abbrev pub Going : ℕ → Disk → List Act → Disk → List Act → Type 0
-Going sectors start all here rest = sectors ≤ start.plate.sectors → Working start all here rest
+-- A plan goes on by its next act, or is cut in it.
+pub going_on : (start here e : Disk) (all left rest : List Act) (a : Act) → left ≡ a ∷ rest → Working start all here left → Done here (a ∷ []) e → Working start all e rest
+going_on start here e all left rest a next w done =
+    plan_goes start here e all (a ∷ []) rest (subst (λ (p : List Act). Working start all here p) next w) done (done_plate here e (a ∷ []) done)
 
-pub going_begins : (n : ℕ) (d : Disk) (all : List Act) → Going n d all d all
-going_begins n d all room = work_begins d all
+pub going_cut : (start here e : Disk) (all left rest : List Act) (a : Act) (f : DeviceFault) → left ≡ a ∷ rest → Working start all here left → Tries here (a ∷ []) (Err f) e
+    → Tries start all (Err f) e
+going_cut start here e all left rest a f next w did = work_cut start here e all rest a f (subst (λ (p : List Act). Working start all here p) next w) did
 
-here_room : (n : ℕ) (start here : Disk) → here.plate ≡ start.plate → n ≤ start.plate.sectors → n ≤ here.plate.sectors
-here_room n start here p h = omega (arith, ap (λ v. v.sectors) p)
+pub going_ends : (start here : Disk) (all left : List Act) → left ≡ [] → Working start all here left → Done start all here
+going_ends start here all left none w = work_ends start here all (subst (λ (p : List Act). Working start all here p) none w)
 
-pub going_on : (n : ℕ) (start here e : Disk) (all left rest : List Act) (a : Act) → left ≡ a ∷ rest → Going n start all here left
-    → (n ≤ here.plate.sectors → Done here (a ∷ []) e) → Going n start all e rest
-going_on n start here e all left rest a next w did room =
-    let now = subst (λ (p : List Act). Working start all here p) next (w room) in
-    let done = did (here_room n start here now.plate room) in
-    plan_goes start here e all (a ∷ []) rest now done (done_plate here e (a ∷ []) done)
-
-pub going_cut : (n : ℕ) (start here e : Disk) (all left rest : List Act) (a : Act) (f : DeviceFault) → left ≡ a ∷ rest → Going n start all here left
-    → (n ≤ here.plate.sectors → Tries here (a ∷ []) (Err f) e) → n ≤ start.plate.sectors → Tries start all (Err f) e
-going_cut n start here e all left rest a f next w did room =
-    let now = subst (λ (p : List Act). Working start all here p) next (w room) in
-    work_cut start here e all rest a f now (did (here_room n start here now.plate room))
-
-pub going_ends : (n : ℕ) (start here : Disk) (all left : List Act) → left ≡ [] → Going n start all here left → n ≤ start.plate.sectors → Done start all here
-going_ends n start here all left none w room = work_ends start here all (subst (λ (p : List Act). Working start all here p) none (w room))
+-- a device has as many sectors as it had
+pub still_room : (n : ℕ) (start here : Disk) (all left : List Act) → Working start all here left → n ≤ start.plate.sectors → n ≤ here.plate.sectors
+still_room n start here all left w h = omega (arith, ap (λ v. v.sectors) w.plate)
 
 -- The record with serial s is written.
 abbrev pub written_as : ℕ → ℕ → ℕ → Item → Act
@@ -53,10 +42,10 @@ left n low last xs i = appending n low (last + i) (drop i xs)
 
 -- All the items were to be written from `start`, and i of them are.
 abbrev pub Appending : ℕ → ℕ → ℕ → List Item → Disk → Disk → ℕ → Type 0
-Appending n low last xs start here i = Going n start (appending n low last xs) here (left n low last xs i)
+Appending n low last xs start here i = Working start (appending n low last xs) here (left n low last xs i)
 
 pub append_begins : (n low last : ℕ) (xs : List Item) (d : Disk) → Appending n low last xs d d 0
-append_begins n low last xs d room =
+append_begins n low last xs d =
     subst (λ (s : ℕ). Working d (appending n low last xs) d (appending n low s xs)) (sym (add-zero last)) (work_begins d (appending n low last xs))
 
 -- what is left begins with the next item
@@ -70,20 +59,20 @@ left_next n low last i x xs h =
 
 -- one item more is written
 pub append_goes : (n low last i : ℕ) (x : Item) (xs : List Item) (start here e : Disk) → drop i xs ≡ x ∷ drop (i + 1) xs → Appending n low last xs start here i
-    → (n ≤ here.plate.sectors → Done here (written_as n low (last + 1 + i) x ∷ []) e) → Appending n low last xs start e (i + 1)
+    → Done here (written_as n low (last + 1 + i) x ∷ []) e → Appending n low last xs start e (i + 1)
 append_goes n low last i x xs start here e next =
-    going_on n start here e (appending n low last xs) (left n low last xs i) (left n low last xs (i + 1)) (written_as n low (last + 1 + i) x) (left_next n low last i x xs next)
+    going_on start here e (appending n low last xs) (left n low last xs i) (left n low last xs (i + 1)) (written_as n low (last + 1 + i) x) (left_next n low last i x xs next)
 
 -- power failed in writing the next
 pub append_cut : (n low last i : ℕ) (x : Item) (xs : List Item) (start here e : Disk) (f : DeviceFault) → drop i xs ≡ x ∷ drop (i + 1) xs → Appending n low last xs start here i
-    → (n ≤ here.plate.sectors → Tries here (written_as n low (last + 1 + i) x ∷ []) (Err f) e) → n ≤ start.plate.sectors → Tries start (appending n low last xs) (Err f) e
+    → Tries here (written_as n low (last + 1 + i) x ∷ []) (Err f) e → Tries start (appending n low last xs) (Err f) e
 append_cut n low last i x xs start here e f next =
-    going_cut n start here e (appending n low last xs) (left n low last xs i) (left n low last xs (i + 1)) (written_as n low (last + 1 + i) x) f (left_next n low last i x xs next)
+    going_cut start here e (appending n low last xs) (left n low last xs i) (left n low last xs (i + 1)) (written_as n low (last + 1 + i) x) f (left_next n low last i x xs next)
 
 -- all are written
-pub append_ends : (n low last i : ℕ) (xs : List Item) (start here : Disk) → length xs ≤ i → Appending n low last xs start here i → n ≤ start.plate.sectors → Done start (appending n low last xs) here
+pub append_ends : (n low last i : ℕ) (xs : List Item) (start here : Disk) → length xs ≤ i → Appending n low last xs start here i → Done start (appending n low last xs) here
 append_ends n low last i xs start here h =
-    going_ends n start here (appending n low last xs) (left n low last xs i) (ap (appending n low (last + i)) (drop_all i xs h))
+    going_ends start here (appending n low last xs) (left n low last xs i) (ap (appending n low (last + i)) (drop_all i xs h))
 
 -- the next of a list is x, seen through f; ys is the list by another name
 pub next_seen : {X : Type 0} (f : X → Item) (xs ys : List X) (i : ℕ) (x : X) → x ≡ get_or xs i x → xs ≡ ys → i < length xs

@@ -17,7 +17,8 @@ use image::Pieces;
 
 // Writes all that waits, and settles it.
 pub(crate) fn flush_out<D: Device>(device: &mut D, state: &State) -> Result<(), DeviceFault>
-    ensures { OnLog state.now (D.Device.disk device.old) → Tries (D.Device.disk device.old) (writing state.now (spooled state.now)) result (D.Device.disk device.new) }
+    requires { OnLog state.now (D.Device.disk device.old) }
+    ensures { Tries (D.Device.disk device.old) (writing state.now (spooled state.now)) result (D.Device.disk device.new) }
 {
     write_spool(device, &state.log, &state.spool)?;
     device.barrier()
@@ -27,7 +28,8 @@ pub(crate) fn flush_out<D: Device>(device: &mut D, state: &State) -> Result<(), 
 fn commit_out<D: Device>(device: &mut D, state: &State, pieces: &Pieces) -> Result<(), DeviceFault>
     requires pieces { PiecesOf state.now pieces.now }
     requires passes { first_fit (commit_rows state.now (array_vec_len pieces.now) true) ≡ None }
-    ensures { OnLog state.now (D.Device.disk device.old) → Tries (D.Device.disk device.old) (writing state.now (spooled state.now ++ own state.now)) result (D.Device.disk device.new) }
+    requires lies { OnLog state.now (D.Device.disk device.old) }
+    ensures { Tries (D.Device.disk device.old) (writing state.now (spooled state.now ++ own state.now)) result (D.Device.disk device.new) }
 {
     write_spool(device, &state.log, &state.spool)?;
     let last = state.written_to();
@@ -37,7 +39,8 @@ fn commit_out<D: Device>(device: &mut D, state: &State, pieces: &Pieces) -> Resu
 
 // Writes the spool; an empty one writes nothing.
 pub(crate) fn flush_store<D: Device>(device: &mut D, state: &mut State) -> Result<usize, StoreFault>
-    ensures { LiesOn state.old (D.Device.disk device.old) → Flushes state.old (D.Device.disk device.old) result state.new (D.Device.disk device.new) }
+    requires { LiesOn state.old (D.Device.disk device.old) }
+    ensures { Flushes state.old (D.Device.disk device.old) result state.new (D.Device.disk device.new) }
 {
     state.awake()?;
     if state.spool.is_empty() {
@@ -57,7 +60,8 @@ fn commit_flushed<D: Device>(
     requires pieces { PiecesOf state.old pieces.now }
     requires passes { first_fit (commit_rows state.old (array_vec_len pieces.now) true) ≡ None }
     requires some { declared state.old.image ≢ [] }
-    ensures { OnLog state.old (D.Device.disk device.old) → PartsAnswer state.old (D.Device.disk device.old) true result state.new (D.Device.disk device.new) }
+    requires lies { OnLog state.old (D.Device.disk device.old) }
+    ensures { PartsAnswer state.old (D.Device.disk device.old) true result state.new (D.Device.disk device.new) }
 {
     state.on = false;
     commit_out(device, state, pieces)?;
@@ -74,7 +78,8 @@ fn commit_pieces<D: Device>(
     requires pieces { PiecesOf state.old pieces.now }
     requires some { declared state.old.image ≢ [] }
     requires on { state.old.on ≡ true }
-    ensures { OnLog state.old (D.Device.disk device.old) → PiecesAnswer state.old (D.Device.disk device.old) flush result state.new (D.Device.disk device.new) }
+    requires lies { OnLog state.old (D.Device.disk device.old) }
+    ensures { PiecesAnswer state.old (D.Device.disk device.old) flush result state.new (D.Device.disk device.new) }
 {
     if let Err(fault) = state.may_commit(pieces, flush) {
         state.undo();
@@ -94,7 +99,8 @@ pub(crate) fn commit_store<D: Device>(
     number: u64,
     flush: bool,
 ) -> Result<(u64, usize), StoreFault>
-    ensures { LiesOn state.old (D.Device.disk device.old) → Commits state.old (D.Device.disk device.old) number flush result state.new (D.Device.disk device.new) }
+    requires { LiesOn state.old (D.Device.disk device.old) }
+    ensures { Commits state.old (D.Device.disk device.old) number flush result state.new (D.Device.disk device.new) }
 {
     state.shown(number)?;
     if state.image.is_clean() {

@@ -20,8 +20,9 @@ fn write_page<D: Device>(
     memory: &[u8; MEMORY],
     page: usize,
 ) -> Result<(), DeviceFault>
-    requires { page < 64 }
-    ensures { log.now.places ≤ (D.Device.disk device.old).plate.sectors → Tries (D.Device.disk device.old) (wrote (serial % log.now.places) (laid_out (recorded log.now.low serial (page_item log.now.ordinal memory.now page))) ∷ []) result (D.Device.disk device.new) }
+    requires page { page < 64 }
+    requires room { log.now.places ≤ (D.Device.disk device.old).plate.sectors }
+    ensures { Tries (D.Device.disk device.old) (wrote (serial % log.now.places) (laid_out (recorded log.now.low serial (page_item log.now.ordinal memory.now page))) ∷ []) result (D.Device.disk device.new) }
 {
     let start = page * PAGE;
     let record = Record::Page {
@@ -42,7 +43,8 @@ pub(crate) fn write_pages<D: Device>(
 ) -> Result<(), DeviceFault>
     requires bounded { last + length pages.now < 2 ^ 63 }
     requires inside { EachIndex pages.now (λ i. slice_index pages.now i < 64) }
-    ensures { log.now.places ≤ (D.Device.disk device.old).plate.sectors → Tries (D.Device.disk device.old) (appending log.now.places log.now.low last (map (page_item log.now.ordinal memory.now) pages.now)) result (D.Device.disk device.new) }
+    requires room { log.now.places ≤ (D.Device.disk device.old).plate.sectors }
+    ensures { Tries (D.Device.disk device.old) (appending log.now.places log.now.low last (map (page_item log.now.ordinal memory.now) pages.now)) result (D.Device.disk device.new) }
 {
     for (i, page) in pages.iter().enumerate() {
         write_page(device, log, last + 1 + i as u64, memory, *page)?;
@@ -70,7 +72,8 @@ fn write_home<D: Device>(
 ) -> Result<(), DeviceFault>
     requires page { page < 64 }
     requires few { places ≤ 1024 }
-    ensures { places + 64 ≤ (D.Device.disk device.old).plate.sectors → Tries (D.Device.disk device.old) (wrote (places + page) (home_of memory.now page) ∷ []) result (D.Device.disk device.new) }
+    requires room { places + 64 ≤ (D.Device.disk device.old).plate.sectors }
+    ensures { Tries (D.Device.disk device.old) (wrote (places + page) (home_of memory.now page) ∷ []) result (D.Device.disk device.new) }
 {
     device.write(places + page, &home_of(memory, page))
 }
@@ -84,7 +87,8 @@ pub(crate) fn write_homes<D: Device>(
 ) -> Result<(), DeviceFault>
     requires few { places ≤ 1024 }
     requires inside { EachIndex pages.now (λ i. slice_index pages.now i < 64) }
-    ensures { places + 64 ≤ (D.Device.disk device.old).plate.sectors → Tries (D.Device.disk device.old) (homing places memory.now pages.now) result (D.Device.disk device.new) }
+    requires room { places + 64 ≤ (D.Device.disk device.old).plate.sectors }
+    ensures { Tries (D.Device.disk device.old) (homing places memory.now pages.now) result (D.Device.disk device.new) }
 {
     for page in pages {
         write_home(device, places, memory, *page)?;

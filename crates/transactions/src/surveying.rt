@@ -29,8 +29,9 @@ fn of_serial(note: Note, serial: u64) -> Note
 
 // The note of the record with this serial, where the log has it.
 fn look_for<D: Device>(device: &mut D, places: usize, serial: u64) -> Result<Note, DeviceFault>
-    requires { 1 ≤ places }
-    ensures { places ≤ (D.Device.disk device.old).plate.sectors → Looks (D.Device.disk device.old) (Notes (log places (D.Device.disk device.old).shows serial)) result (D.Device.disk device.new) }
+    requires some { 1 ≤ places }
+    requires room { places ≤ (D.Device.disk device.old).plate.sectors }
+    ensures { Looks (D.Device.disk device.old) (Notes (log places (D.Device.disk device.old).shows serial)) result (D.Device.disk device.new) }
 {
     let mut sector = [0u8; 128];
     let place = (serial % places as u64) as usize;
@@ -64,8 +65,9 @@ fn note_live<D: Device>(
     serial: u64,
     pages: &mut [Page; PAGES],
 ) -> Result<(), DeviceFault>
-    requires { 1 ≤ places }
-    ensures { places ≤ (D.Device.disk device.old).plate.sectors → Looks (D.Device.disk device.old) (λ _. Noted (log places (D.Device.disk device.old).shows serial) pages.old pages.new) result (D.Device.disk device.new) }
+    requires some { 1 ≤ places }
+    requires room { places ≤ (D.Device.disk device.old).plate.sectors }
+    ensures { Looks (D.Device.disk device.old) (λ _. Noted (log places (D.Device.disk device.old).shows serial) pages.old pages.new) result (D.Device.disk device.new) }
 {
     let note = look_for(device, places, serial)?;
     let said = Page {
@@ -82,8 +84,9 @@ fn note_log<D: Device>(
     log: &Log,
     pages: &mut [Page; PAGES],
 ) -> Result<(), DeviceFault>
-    requires { log.now.last < 2 ^ 63 }
-    ensures { log.now.places ≤ (D.Device.disk device.old).plate.sectors → Looks (D.Device.disk device.old) (λ _. FoundLive log.now (D.Device.disk device.old).shows pages.old pages.new) result (D.Device.disk device.new) }
+    requires bounded { log.now.last < 2 ^ 63 }
+    requires room { log.now.places ≤ (D.Device.disk device.old).plate.sectors }
+    ensures { Looks (D.Device.disk device.old) (λ _. FoundLive log.now (D.Device.disk device.old).shows pages.old pages.new) result (D.Device.disk device.new) }
 {
     for serial in log.low..log.last + 1 {
         note_live(device, log.places, serial, pages)?;
@@ -113,7 +116,8 @@ fn note_spool(spool: &Spool, pages: &mut [Page; PAGES])
 
 // The pages that live records and those that wait name, and those of them that none covers.
 pub(crate) fn find_dirty<D: Device>(device: &mut D, state: &State) -> Result<Dirty, DeviceFault>
-    ensures { OnLog state.now (D.Device.disk device.old) → Looks (D.Device.disk device.old) (FoundDirty state.now (D.Device.disk device.old).shows) result (D.Device.disk device.new) }
+    requires { OnLog state.now (D.Device.disk device.old) }
+    ensures { Looks (D.Device.disk device.old) (FoundDirty state.now (D.Device.disk device.old).shows) result (D.Device.disk device.new) }
 {
     let mut pages = [Page::default(); PAGES];
     note_log(device, &state.log, &mut pages)?;

@@ -19,7 +19,8 @@ use recovery::write_record;
 
 // Writes and settles what waits; where nothing waits, does nothing.
 fn flush_waiting<D: Device>(device: &mut D, state: &State) -> Result<(), DeviceFault>
-    ensures { OnLog state.now (D.Device.disk device.old) → Tries (D.Device.disk device.old) (flushing state.now) result (D.Device.disk device.new) }
+    requires { OnLog state.now (D.Device.disk device.old) }
+    ensures { Tries (D.Device.disk device.old) (flushing state.now) result (D.Device.disk device.new) }
 {
     if state.spool.is_empty() {
         return Ok(());
@@ -31,7 +32,8 @@ fn flush_waiting<D: Device>(device: &mut D, state: &State) -> Result<(), DeviceF
 fn cover<D: Device>(device: &mut D, state: &State, due: &[usize]) -> Result<(), DeviceFault>
     requires bounded { state.now.log.last + array_vec_len state.now.spool + length due.now < 2 ^ 63 }
     requires inside { EachIndex due.now (λ i. slice_index due.now i < 64) }
-    ensures { OnLog state.now (D.Device.disk device.old) → Tries (D.Device.disk device.old) (covering state.now due.now) result (D.Device.disk device.new) }
+    requires lies { OnLog state.now (D.Device.disk device.old) }
+    ensures { Tries (D.Device.disk device.old) (covering state.now due.now) result (D.Device.disk device.new) }
 {
     write_pages(
         device,
@@ -45,8 +47,9 @@ fn cover<D: Device>(device: &mut D, state: &State, due: &[usize]) -> Result<(), 
 
 // Writes these pages home, and settles them.
 fn go_home<D: Device>(device: &mut D, state: &State, pages: &[usize]) -> Result<(), DeviceFault>
-    requires { EachIndex pages.now (λ i. slice_index pages.now i < 64) }
-    ensures { OnLog state.now (D.Device.disk device.old) → Tries (D.Device.disk device.old) (going_home state.now pages.now) result (D.Device.disk device.new) }
+    requires inside { EachIndex pages.now (λ i. slice_index pages.now i < 64) }
+    requires lies { OnLog state.now (D.Device.disk device.old) }
+    ensures { Tries (D.Device.disk device.old) (going_home state.now pages.now) result (D.Device.disk device.new) }
 {
     write_homes(device, state.log.places, &state.image.memory, pages)?;
     device.barrier()
@@ -56,7 +59,8 @@ fn go_home<D: Device>(device: &mut D, state: &State, pages: &[usize]) -> Result<
 fn mark_anew<D: Device>(device: &mut D, state: &State, due: usize) -> Result<(), DeviceFault>
     requires few { due ≤ 64 }
     requires bounded { state.now.log.last + array_vec_len state.now.spool + 65 < 2 ^ 63 }
-    ensures { OnLog state.now (D.Device.disk device.old) → Tries (D.Device.disk device.old) (marking state.now.log.places (covered_to state.now due) state.now.log.ordinal) result (D.Device.disk device.new) }
+    requires lies { OnLog state.now (D.Device.disk device.old) }
+    ensures { Tries (D.Device.disk device.old) (marking state.now.log.places (covered_to state.now due) state.now.log.ordinal) result (D.Device.disk device.new) }
 {
     let serial = state.written_to() + due as u64 + 1;
     let head = Head {
@@ -70,8 +74,9 @@ fn mark_anew<D: Device>(device: &mut D, state: &State, due: usize) -> Result<(),
 
 // All that a truncation writes: what waits, page records, homes, and the mark.
 fn truncate_out<D: Device>(device: &mut D, state: &State, dirty: &Dirty) -> Result<(), DeviceFault>
-    requires { state.now.log.last + array_vec_len state.now.spool + 65 < 2 ^ 63 }
-    ensures { OnLog state.now (D.Device.disk device.old) → Tries (D.Device.disk device.old) (truncating state.now dirty.now.due.items dirty.now.pages.items) result (D.Device.disk device.new) }
+    requires bounded { state.now.log.last + array_vec_len state.now.spool + 65 < 2 ^ 63 }
+    requires lies { OnLog state.now (D.Device.disk device.old) }
+    ensures { Tries (D.Device.disk device.old) (truncating state.now dirty.now.due.items dirty.now.pages.items) result (D.Device.disk device.new) }
 {
     flush_waiting(device, state)?;
     cover(device, state, &dirty.due)?;
@@ -85,8 +90,10 @@ fn truncate_pages<D: Device>(
     state: &mut State,
     dirty: &Dirty,
 ) -> Result<usize, StoreFault>
-    requires { state.old.log.last + array_vec_len state.old.spool + 65 < 2 ^ 63 }
-    ensures { OnLog state.old (D.Device.disk device.old) → FoundDirty state.old (D.Device.disk device.old).shows dirty.now → PagesAnswer state.old (D.Device.disk device.old) result state.new (D.Device.disk device.new) }
+    requires bounded { state.old.log.last + array_vec_len state.old.spool + 65 < 2 ^ 63 }
+    requires lies { OnLog state.old (D.Device.disk device.old) }
+    requires dirty { FoundDirty state.old (D.Device.disk device.old).shows dirty.now }
+    ensures { PagesAnswer state.old (D.Device.disk device.old) result state.new (D.Device.disk device.new) }
 {
     let records = dirty.due.len();
     state.has_log(records)?;
@@ -105,7 +112,8 @@ pub(crate) fn truncate_store<D: Device>(
     device: &mut D,
     state: &mut State,
 ) -> Result<usize, StoreFault>
-    ensures { LiesOn state.old (D.Device.disk device.old) → Truncates state.old (D.Device.disk device.old) result state.new (D.Device.disk device.new) }
+    requires { LiesOn state.old (D.Device.disk device.old) }
+    ensures { Truncates state.old (D.Device.disk device.old) result state.new (D.Device.disk device.new) }
 {
     state.may_begin()?;
     state.has_serials()?;

@@ -21,7 +21,8 @@ fn write_spooled<D: Device>(
     serial: u64,
     item: &Spooled,
 ) -> Result<(), DeviceFault>
-    ensures { log.now.places ≤ (D.Device.disk device.old).plate.sectors → Tries (D.Device.disk device.old) (wrote (serial % log.now.places) (laid_out (recorded log.now.low serial (item_of item.now))) ∷ []) result (D.Device.disk device.new) }
+    requires { log.now.places ≤ (D.Device.disk device.old).plate.sectors }
+    ensures { Tries (D.Device.disk device.old) (wrote (serial % log.now.places) (laid_out (recorded log.now.low serial (item_of item.now))) ∷ []) result (D.Device.disk device.new) }
 {
     let record = Record::Part {
         head: log.head(serial, item.ordinal),
@@ -39,8 +40,9 @@ pub(crate) fn write_spool<D: Device>(
     log: &Log,
     spool: &Spool,
 ) -> Result<(), DeviceFault>
-    requires { log.now.last + array_vec_len spool.now < 2 ^ 63 }
-    ensures { log.now.places ≤ (D.Device.disk device.old).plate.sectors → Tries (D.Device.disk device.old) (appending log.now.places log.now.low log.now.last (waiting spool.now)) result (D.Device.disk device.new) }
+    requires bounded { log.now.last + array_vec_len spool.now < 2 ^ 63 }
+    requires room { log.now.places ≤ (D.Device.disk device.old).plate.sectors }
+    ensures { Tries (D.Device.disk device.old) (appending log.now.places log.now.low log.now.last (waiting spool.now)) result (D.Device.disk device.new) }
 {
     for (i, item) in spool.iter().enumerate() {
         write_spooled(device, log, log.last + 1 + i as u64, item)?;
@@ -59,7 +61,8 @@ fn write_piece<D: Device>(
 ) -> Result<(), DeviceFault>
     requires fits { FitsPage piece.now }
     requires numbered { log.now.ordinal < 2 ^ 63 }
-    ensures { log.now.places ≤ (D.Device.disk device.old).plate.sectors → Tries (D.Device.disk device.old) (wrote (serial % log.now.places) (laid_out (recorded log.now.low serial (part (log.now.ordinal + 1) memory.now (if last then 2 else 1) piece.now))) ∷ []) result (D.Device.disk device.new) }
+    requires room { log.now.places ≤ (D.Device.disk device.old).plate.sectors }
+    ensures { Tries (D.Device.disk device.old) (wrote (serial % log.now.places) (laid_out (recorded log.now.low serial (part (log.now.ordinal + 1) memory.now (if last then 2 else 1) piece.now))) ∷ []) result (D.Device.disk device.new) }
 {
     let record = Record::Part {
         head: log.head(serial, log.ordinal + 1),
@@ -82,7 +85,8 @@ pub(crate) fn write_pieces<D: Device>(
     requires bounded { last + array_vec_len pieces.now < 2 ^ 63 }
     requires numbered { log.now.ordinal < 2 ^ 63 }
     requires fit { AllPieces pieces.now.items }
-    ensures { log.now.places ≤ (D.Device.disk device.old).plate.sectors → Tries (D.Device.disk device.old) (appending log.now.places log.now.low last (parts (log.now.ordinal + 1) memory.now pieces.now.items)) result (D.Device.disk device.new) }
+    requires room { log.now.places ≤ (D.Device.disk device.old).plate.sectors }
+    ensures { Tries (D.Device.disk device.old) (appending log.now.places log.now.low last (parts (log.now.ordinal + 1) memory.now pieces.now.items)) result (D.Device.disk device.new) }
 {
     for (i, piece) in pieces.iter().enumerate() {
         let serial = last + 1 + i as u64;

@@ -6,7 +6,7 @@ use Rattle.transactions.proofs.Plans.{roomy, some_pieces, pieces_fit, passes_own
 use Rattle.transactions.proofs.calls.commit_pieces.Goals as goal
 
 pub returns-in-Err : goal.returns-in-Err
-returns-in-Err g c h =
+returns-in-Err g c =
     let s = c.args.state.now in
     inl
     record {
@@ -31,7 +31,7 @@ spooled_up-requires g c =
     }
 
 pub returns-else-flush : goal.returns-else-flush
-returns-else-flush g c h =
+returns-else-flush g c =
     let s = c.args.state.now in
     let d = g.D.Device.disk c.args.device.now in
     let done = c.spooled_up.ensures in

@@ -3,11 +3,14 @@ use Rattle.std.proofs.Common.{map, get_or, refl, arith}
 use Rattle.std.proofs.lemmas.List.{length-map, get_or_default}
 use Rattle.std.proofs.lemmas.Result.{err_from_is_err_and}
 use Rattle.transactions.specs.Truncation.{page_item}
-use Rattle.transactions.proofs.Loops.{append_goes, append_cut, append_ends, next_seen}
+use Rattle.transactions.proofs.Loops.{append_goes, append_cut, append_ends, still_room, next_seen}
 use Rattle.transactions.proofs.homes.write_pages.Goals as goal
 
+pub write_page-requires-clause-room : goal.write_page-requires-clause-room
+write_page-requires-clause-room g c = still_room c.args.log.now.places (g.D.Device.disk c.args.device.now) (g.D.Device.disk c.loop-i.device) _ _ c.loop-i.invariant c.requires.room
+
 pub returns-in_err-write_page : goal.returns-in_err-write_page
-returns-in_err-write_page g c room =
+returns-in_err-write_page g c =
     let log = c.args.log.now in
     let ps = c.args.pages.now in
     let i = c.loop-i.i in
@@ -17,7 +20,7 @@ returns-in_err-write_page g c room =
     rw (p.1, p.2)
     (append_cut log.places log.low c.args.last i (f x) (map f ps)
     (g.D.Device.disk c.args.device.now) (g.D.Device.disk c.loop-i.device) (g.D.Device.disk c.write_page.new.device) c.in_err-write_page.field-0.0
-    (next_seen f ps ps i x (get_or_default ps i 0 x c.loop-i-test.true) refl c.loop-i-test.true) c.loop-i.invariant c.in_err-write_page.ensures room)
+    (next_seen f ps ps i x (get_or_default ps i 0 x c.loop-i-test.true) refl c.loop-i-test.true) c.loop-i.invariant c.in_err-write_page.ensures)
 
 pub loop-i-preserved : goal.loop-i-preserved
 loop-i-preserved g c =

@@ -4,15 +4,14 @@ use Rattle.std.proofs.lemmas.List.{get_or-replicate}
 use Rattle.transactions.specs.declared.pages.Page.{Page}
 use Rattle.transactions.specs.Pages.{unsaid}
 use Rattle.transactions.proofs.Noting.{found_all}
-use Rattle.transactions.proofs.Plans.{on_device}
 use Rattle.transactions.proofs.Truncating.{dirty_is, due_is}
 use Rattle.transactions.proofs.surveying.find_dirty.Goals as goal
 
 pub returns : goal.returns
-returns g c room =
+returns g c =
     let s = c.args.state.now in
     let d = g.D.Device.disk c.args.device.now in
-    let h = c.in_ok-note_log.ensures (on_device s d room) in
+    let h = c.in_ok-note_log.ensures in
     let x = c.default-pages.result in
     let none : x ≡ unsaid = search rules in
     let at = λ (p : ℕ) (small : p < 64). get_or-replicate 64 p x unsaid small ∙ none in

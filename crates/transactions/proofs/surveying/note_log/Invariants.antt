@@ -4,8 +4,8 @@ use Rattle.transactions.specs.Pages.{FoundFirst}
 use Rattle.transactions.proofs.surveying.note_log.Given as goal
 
 abbrev pub invariant-loop-serial : goal.invariant-loop-serial
-invariant-loop-serial g l =
-    (l.serial - l.log.low ≤ l.log.last + 1 - l.log.low)
-    × (l.log.places ≤ (g.D.Device.disk l.initial.device).plate.sectors
-    → (g.D.Device.disk l.device ≡ g.D.Device.disk l.initial.device)
-    × FoundFirst l.log (g.D.Device.disk l.initial.device).shows (l.serial - l.log.low) l.initial.pages l.pages)
+invariant-loop-serial g l = record {
+  below : l.serial - l.log.low ≤ l.log.last + 1 - l.log.low;
+  same : g.D.Device.disk l.device ≡ g.D.Device.disk l.initial.device;
+  found : FoundFirst l.log (g.D.Device.disk l.initial.device).shows (l.serial - l.log.low) l.initial.pages l.pages;
+}

@@ -3,7 +3,7 @@ use Rattle.std.proofs.Common.{◌+◌, length, sym, ap, subst, arith}
 use Rattle.std.proofs.lemmas.Result.{err_from_is_err_and}
 use Rattle.image.specs.Cut.{AllPieces}
 use Rattle.transactions.specs.Parts.{parts}
-use Rattle.transactions.proofs.Loops.{append_goes, append_cut, append_ends, part_at, next_own, length_parts, fits_at}
+use Rattle.transactions.proofs.Loops.{append_goes, append_cut, append_ends, still_room, part_at, next_own, length_parts, fits_at}
 use Rattle.transactions.proofs.writing.write_pieces.Goals as goal
 
 pub write_piece-requires : goal.write_piece-requires
@@ -11,10 +11,11 @@ write_piece-requires g c =
     record {
       fits = fits_at c.deref-piece-items.result.now c.loop-i.i _ c.loop-i-test.true (subst AllPieces (sym c.deref-piece-items.ensures.0) c.requires.fit);
       numbered = c.requires.numbered;
+      room = still_room c.args.log.now.places (g.D.Device.disk c.args.device.now) (g.D.Device.disk c.loop-i.device) _ _ c.loop-i.invariant c.requires.room;
     }
 
 pub returns-in_err-write_piece : goal.returns-in_err-write_piece
-returns-in_err-write_piece g c room =
+returns-in_err-write_piece g c =
     let log = c.args.log.now in
     let xs = c.deref-piece-items.result.now in
     let ps = c.args.pieces.now.items in
@@ -25,7 +26,7 @@ returns-in_err-write_piece g c room =
     rw (p.1, p.2)
     (append_cut log.places log.low c.args.last i (part_at o memory c.len.result xs i) (parts o memory ps)
     (g.D.Device.disk c.args.device.now) (g.D.Device.disk c.loop-i.device) (g.D.Device.disk c.write_piece.new.device) c.in_err-write_piece.field-0.0
-    (next_own o memory c.len.result xs ps i c.deref-piece-items.ensures.0 c.len.ensures.value c.loop-i-test.true) c.loop-i.invariant c.in_err-write_piece.ensures room)
+    (next_own o memory c.len.result xs ps i c.deref-piece-items.ensures.0 c.len.ensures.value c.loop-i-test.true) c.loop-i.invariant c.in_err-write_piece.ensures)
 
 pub loop-i-preserved : goal.loop-i-preserved
 loop-i-preserved g c =

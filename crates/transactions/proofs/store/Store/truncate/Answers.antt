@@ -6,4 +6,4 @@ pub invariant_of-self : goal.invariant_of-self
 invariant_of-self g c =
     let s = c.args.self.now in
     let t = c.truncate_store.new in
-    record { lies = truncate_lies s.state t.state (g.D.Device.disk s.device) (g.D.Device.disk t.device) c.truncate_store.result s.lies (c.truncate_store.ensures s.lies) }
+    record { lies = truncate_lies s.state t.state (g.D.Device.disk s.device) (g.D.Device.disk t.device) c.truncate_store.result s.lies c.truncate_store.ensures }
