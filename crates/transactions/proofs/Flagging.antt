@@ -1,10 +1,8 @@
 -- What is said of pages, and the pages that a test chooses.
-use Rattle.std.proofs.Common.{◌≡◌, ℕ, zero, suc, ◌+◌, ◌-◌, ◌<◌, ◌≤◌, Bool, true, false, cond, eqb, List, [], ◌∷◌, ◌++◌, length, get_or, set, sym, refl, ap, ◌∙◌, subst, inl, inr, ⊎_elim, arith, get_or-set_other, get_or-set_same}
+use Rattle.std.proofs.Common.{◌≡◌, ℕ, zero, suc, ◌+◌, ◌-◌, ◌<◌, ◌≤◌, Bool, true, false, cond, List, [], ◌∷◌, ◌++◌, length, get_or, sym, refl, ap, ◌∙◌, subst, inl, inr, ⊎_elim, arith}
 use Rattle.std.proofs.lemmas.List.{append_assoc}
-use Rattle.std.proofs.lemmas.Bool.{cases_eq, eq-eqb, ne_eqb}
+use Rattle.std.proofs.lemmas.Bool.{cases_eq}
 use Rattle.device.specs.Disk.{Among}
-use Rattle.transactions.specs.declared.pages.Page.{Page}
-use Rattle.transactions.specs.Pages.{unsaid, Agree}
 use Rattle.transactions.specs.Truncation.{chosen}
 
 -- What is chosen of the pages from i up to n begins with i, where i passes.
@@ -34,29 +32,6 @@ chosen_same test test' i (suc k) n h same =
     let rest = chosen_same test test' (i + 1) k n (omega arith) same in
     ap (λ (b : Bool). cond b (i ∷ chosen test (i + 1) k) (chosen test (i + 1) k)) e
     ∙ ap (λ (ps : List ℕ). cond (test' i) (i ∷ ps) ps) rest
-
--- what is said of one page is noted there, and nowhere else
-pub told_by : (f : Page → Bool) (ps : List Page) (page : ℕ) (said : Bool) (x : Page) → page < length ps → f x ≡ cond (f (get_or ps page unsaid)) true said
-    → Agree (λ p. f (get_or (set ps page x) p unsaid)) (λ p. cond (cond (eqb page p) said false) true (f (get_or ps p unsaid)))
-told_by f ps page said x h is p small =
-    ⊎_elim
-    (λ (e : page ≡ p).
-    let t = eq-eqb page p e in
-    rw t
-    (ap (λ (q : ℕ). f (get_or (set ps page x) q unsaid)) (sym e) ∙ ap f (get_or-set_same ps page x unsaid h) ∙ is
-    ∙ ap (λ (q : ℕ). cond (f (get_or ps q unsaid)) true said) e ∙ swap (f (get_or ps p unsaid)) said))
-    (λ ne. let t = ne_eqb page p ne in rw t (ap f (get_or-set_other ps page p x unsaid (λ k. ne (sym k)))))
-    (cases_eq page p)
-  where
-    swap : (a b : Bool) → cond a true b ≡ cond (cond true b false) true a
-    swap true true = refl
-    swap true false = refl
-    swap false true = refl
-    swap false false = refl
-
--- there is no such page
-pub untold_by : (test : ℕ → Bool) (page : ℕ) (said : Bool) → 64 ≤ page → Agree test (λ p. cond (cond (eqb page p) said false) true (test p))
-untold_by test page said h p small = let t = ne_eqb page p (λ e. omega arith) in rw t refl
 
 -- what is chosen are pages of those looked at
 pub chosen_inside : (test : ℕ → Bool) (i k n j : ℕ) → i + k ≤ n → j < length (chosen test i k) → get_or (chosen test i k) j 0 < n

@@ -1,12 +1,12 @@
 -- Records written one after another.
-use Rattle.std.proofs.Common.{◌≡◌, ℕ, zero, suc, ◌+◌, ◌%◌, ◌<◌, ◌≤◌, Bool, false, cond, eqb, List, [], ◌∷◌, ◌++◌, map, length, get_or, take, drop, Err, sym, refl, ap, ◌∙◌, subst, ⊎_elim, add-zero, arith, length-append, drop-cons}
+use Rattle.std.proofs.Common.{◌≡◌, ℕ, zero, suc, ◌+◌, ◌%◌, ◌<◌, ◌≤◌, Bool, false, cond, eqb, List, [], ◌∷◌, ◌++◌, map, length, get_or, take, drop, Err, sym, refl, ap, ◌∙◌, subst, ⊎_elim, arith, length-append, drop-cons}
 use Rattle.std.proofs.lemmas.Bool.{cases_eq, eq-eqb, ne_eqb}
 use Rattle.std.proofs.lemmas.List.{length-map, get_or-map, drop_all, drop_more, take_more}
 use Rattle.arrayvec.specs.ArrayVec.{ArrayVec, array_vec_len}
 use Rattle.device.specs.declared.fault.DeviceFault.{DeviceFault}
 use Rattle.device.specs.Disk.{Disk}
 use Rattle.device.specs.Trace.{Act, wrote, Done, Tries}
-use Rattle.device.proofs.Plans.{Working, work_begins, plan_goes, work_ends, work_cut, done_plate}
+use Rattle.device.proofs.Plans.{Working, plan_goes, work_ends, work_cut, done_plate}
 use Rattle.record.specs.Entry.{laid_out}
 use Rattle.durability.specs.Items.{Item, recorded, appending}
 use Rattle.image.specs.declared.run.Piece.{Piece}
@@ -43,10 +43,6 @@ left n low last xs i = appending n low (last + i) (drop i xs)
 -- All the items were to be written from `start`, and i of them are.
 abbrev pub Appending : ℕ → ℕ → ℕ → List Item → Disk → Disk → ℕ → Type 0
 Appending n low last xs start here i = Working start (appending n low last xs) here (left n low last xs i)
-
-pub append_begins : (n low last : ℕ) (xs : List Item) (d : Disk) → Appending n low last xs d d 0
-append_begins n low last xs d =
-    subst (λ (s : ℕ). Working d (appending n low last xs) d (appending n low s xs)) (sym (add-zero last)) (work_begins d (appending n low last xs))
 
 -- what is left begins with the next item
 left_next : (n low last i : ℕ) (x : Item) (xs : List Item) → drop i xs ≡ x ∷ drop (i + 1) xs → left n low last xs i ≡ written_as n low (last + 1 + i) x ∷ left n low last xs (i + 1)

@@ -1,6 +1,7 @@
 -- What a flush and a commit write, and what their tests let through.
 use Rattle.std.proofs.Common.{◌≡◌, ℕ, suc, ◌+◌, ◌-◌, ◌^◌, ◌<◌, ◌≤◌, Bool, true, false, cond, not, ltb, ◌≢◌, List, [], ◌∷◌, ◌++◌, map, length, Some, None, Err, Option, sym, refl, ap, ◌∙◌, subst, ⊎_elim, add-zero, arith}
 use Rattle.std.proofs.lemmas.Bool.{cases_lt, ltb-false}
+use Rattle.std.proofs.lemmas.List.{nil_from_length}
 use Rattle.arrayvec.specs.ArrayVec.{ArrayVec, array_vec_len}
 use Rattle.device.specs.declared.fault.DeviceFault.{DeviceFault}
 use Rattle.device.specs.declared.fault.DeviceFault.TheVariants.{Power, Misaddressed, Unfit, Spoiled}
@@ -29,9 +30,6 @@ use Rattle.transactions.proofs.Loops.{own_is, length_waiting, length_of_own, wri
 -- a log with its homes lies on the device
 pub on_device : (s : State) (d : Disk) → OnLog s d → s.log.places ≤ d.plate.sectors
 on_device s d h = omega arith
-
-pub homes_on_device : (s : State) (d : Disk) → OnLog s d → s.log.places + 64 ≤ d.plate.sectors
-homes_on_device s d h = omega arith
 
 -- and stays there
 pub still_on : (s : State) (d e : Disk) (plan : List Act) → Done d plan e → OnLog s d → OnLog s e
@@ -110,14 +108,10 @@ pub some_pieces : (s : State) (ps : ArrayVec Piece) → PiecesOf s ps → declar
 some_pieces s ps e some =
     ⊎_elim
     (λ (h : length ps.items < 1).
-    let none = none_long ps.items (omega arith) in
+    let none = nil_from_length ps.items (omega arith) in
     absurd (some (runs_none (declared s.image) (apart_out 0 (declared s.image) s.image.runs.apart) (sym e ∙ none))))
     (λ h. h)
     (cases_lt (length ps.items) 1)
-  where
-    none_long : {A : Type 0} (xs : List A) → length xs ≡ 0 → xs ≡ []
-    none_long [] h = refl
-    none_long (x ∷ xs) h = absurd (omega arith)
 
 -- the tests of a commit, by the records that the transaction becomes
 pub passes_own : (s : State) (ps : ArrayVec Piece) (flush : Bool) → PiecesOf s ps → first_fit (commit_rows s (array_vec_len ps) flush) ≡ None → first_fit (commit_rows s (length (state.own s)) flush) ≡ None

@@ -74,10 +74,6 @@ nothing_waits s shows e =
 pub some_dirty : (s : State) (shows : ℕ → Shown) (x : Dirty) → FoundDirty s shows x → eqb (length x.pages.items) 0 ≡ false → dirty_pages s shows ≢ []
 some_dirty s shows x k h none = eqb-false (length x.pages.items) 0 h (ap length k.pages ∙ ap length none)
 
-pub none_raised : (ps : List ℕ) → length ps ≡ 0 → ps ≡ []
-none_raised [] h = refl
-none_raised (p ∷ ps) h = absurd (omega arith)
-
 -- power failed in the plan
 pub pages_cut : (s s' : State) (d e : Disk) (f : DeviceFault) → first_fit (crowded s (length (due_pages s d.shows)) ∷ []) ≡ None → dirty_pages s d.shows ≢ []
     → Tries d (truncation s d.shows) (Err f) e → s'.image ≡ s.image → s'.on ≡ false → PagesAnswer s d (Err (Device f)) s' e

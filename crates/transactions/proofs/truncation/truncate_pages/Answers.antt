@@ -1,11 +1,12 @@
 -- There is too little log, or nothing is dirty, or all is written.
 use Rattle.std.proofs.Common.{◌≡◌, ℕ, List, [], ◌∷◌, length, Some, None, Err, sym, refl, ap, ◌∙◌, subst, inl, inr}
 use Rattle.std.proofs.lemmas.Bool.{eqb-true}
+use Rattle.std.proofs.lemmas.List.{nil_from_length}
 use Rattle.std.proofs.lemmas.Result.{err_from_is_err_and}
 use Rattle.device.specs.Trace.{Act, Done, Tries}
 use Rattle.transactions.specs.Rows.{first_fit}
 use Rattle.transactions.specs.Truncation.{crowded, dirty_pages, Truncated}
-use Rattle.transactions.proofs.Truncating.{plan_is, some_dirty, nothing_waits, none_raised, pages_cut}
+use Rattle.transactions.proofs.Truncating.{plan_is, some_dirty, nothing_waits, pages_cut}
 use Rattle.transactions.proofs.truncation.truncate_pages.Goals as goal
 
 pub returns-in_err-has_log : goal.returns-in_err-has_log
@@ -25,7 +26,7 @@ returns-then-is_empty g c =
     let records = c.len-records.ensures.value ∙ ap length k.due in
     let dirty = ap length k.pages in
     let none = eqb-true (length c.args.dirty.now.pages.items) 0 (sym c.is_empty.ensures ∙ c.if-is_empty.true) in
-    let clean = none_raised (dirty_pages s d.shows) (sym dirty ∙ none) in (
+    let clean = nil_from_length (dirty_pages s d.shows) (sym dirty ∙ none) in (
       subst (λ (n : ℕ). first_fit (crowded s n ∷ []) ≡ None) records c.in_ok-has_log.ensures,
       inl record { clean = clean; empty = nothing_waits s d.shows clean; answer = refl; state = refl; device = refl },
     )
