@@ -1,10 +1,9 @@
 // The calls that write, over the device and the state.
-ghost use Rattle.std.specs.Prelude.{◌≡◌, ◌+◌, ◌≤◌, true, ◌≢◌, [], ◌++◌, None};
+ghost use Rattle.std.specs.Prelude.{◌≡◌, ◌+◌, true, ◌≢◌, [], ◌++◌, None};
 ghost use Rattle.arrayvec.specs.ArrayVec.{array_vec_len};
-ghost use Rattle.device.specs.Disk.{Disk};
 ghost use Rattle.device.specs.Trace.{Tries};
 ghost use Rattle.image.specs.Calls.{declared};
-ghost use Rattle.transactions.specs.Calls.{Flushes, Commits, CommitsParts, CommitCut, writing};
+ghost use Rattle.transactions.specs.Calls.{Flushes, Commits, writing};
 ghost use Rattle.transactions.specs.Rows.{first_fit, commit_rows};
 ghost use Rattle.transactions.specs.State.{OnLog, LiesOn, spooled, own};
 ghost use Rattle.transactions.specs.Steps.{PiecesOf, PartsAnswer, PiecesAnswer};

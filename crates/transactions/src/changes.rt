@@ -1,5 +1,5 @@
 // The changes of a store's state, apart from the device.
-ghost use Rattle.std.specs.Prelude.{◌≡◌, ◌+◌, ◌^◌, ◌<◌, ◌≤◌, true, false, ◌++◌, length, take};
+ghost use Rattle.std.specs.Prelude.{◌≡◌, ◌+◌, ◌^◌, ◌<◌, ◌≤◌, true, ◌++◌, length};
 ghost use Rattle.arrayvec.specs.ArrayVec.{array_vec_len};
 ghost use Rattle.image.specs.Cut.{AllPieces};
 ghost use Rattle.transactions.specs.Calls.{Undone, Written, SpooledUp};

@@ -1,5 +1,5 @@
 // Which pages records name, and which they cover whole.
-ghost use Rattle.std.specs.Prelude.{◌≡◌, ◌<◌, ◌≤◌, slice_index, EachIndex};
+ghost use Rattle.std.specs.Prelude.{◌≡◌, ◌<◌, slice_index, EachIndex};
 
 use arrayvec::ArrayVec;
 

@@ -1,8 +1,5 @@
 // A store over a device, and its calls.
-ghost use Rattle.std.specs.Prelude.{◌≡◌, ◌≤◌, false, []};
-ghost use Rattle.device.specs.Disk.{Disk};
-ghost use Rattle.image.specs.Calls.{declared};
-ghost use Rattle.recovery.specs.Opening.{Opens};
+ghost use Rattle.std.specs.Prelude.{◌≡◌};
 ghost use Rattle.transactions.specs.Calls.{Begins, SetsRange, WritesRange, ReadsRange, Aborts, Flushes, Commits};
 ghost use Rattle.transactions.specs.State.{Formatted, Opened, LiesOn};
 ghost use Rattle.transactions.specs.Truncation.{Truncates};

@@ -1,5 +1,5 @@
 // Finding the pages that a truncation is to write home.
-ghost use Rattle.std.specs.Prelude.{◌≡◌, ◌+◌, ◌%◌, ◌^◌, ◌<◌, ◌≤◌, false, if◌then◌else◌, nat_le, nat_lt};
+ghost use Rattle.std.specs.Prelude.{◌≡◌, ◌^◌, ◌<◌, ◌≤◌, false, if◌then◌else◌, nat_le, nat_lt};
 ghost use Rattle.journal.specs.Log.{log};
 ghost use Rattle.journal.specs.Notes.{Notes, kind_number};
 ghost use Rattle.journal.specs.Survey.{if_noted};
@@ -7,7 +7,7 @@ ghost use Rattle.durability.specs.Items.{recorded};
 ghost use Rattle.recovery.specs.Reading.{Looks};
 ghost use Rattle.transactions.specs.Pages.{Told, Noted, FoundLive, FoundWaiting, FoundDirty};
 ghost use Rattle.transactions.specs.Parts.{item_of};
-ghost use Rattle.transactions.specs.State.{live, OnLog};
+ghost use Rattle.transactions.specs.State.{OnLog};
 
 use crate::log::Log;
 use crate::pages::{Dirty, PAGES, Page};
