@@ -43,6 +43,14 @@ copied_part r s m i h ls lm =
     ∙ overlaid_part r.from (r.to - r.from) s i (get_or m i 0) (omega arith)
     ∙ ap (λ (n : ℕ). over (run r.from n) s i (get_or m i 0)) e
 
+-- a run alone is a run
+pub over_is : (r : Run) (s : List ℕ) (i v : ℕ) → cond (is_declared (r ∷ []) i) (get_or s i 0) v ≡ over r s i v
+over_is r s i v = go (in_run r i)
+  where
+    go : (b : Bool) → cond (cond b true false) (get_or s i 0) v ≡ cond b (get_or s i 0) v
+    go true = refl
+    go false = refl
+
 -- byte i once the bytes of these runs are copied from s, if it was v before
 abbrev pub copied : List Run → List ℕ → ℕ → ℕ → ℕ
 copied [] s i v = v

@@ -1,5 +1,6 @@
 -- The pieces of runs: they fit pages, are few, and have the declared bytes.
-use Rattle.std.proofs.Common.{◌≡◌, ℕ, zero, suc, ◌+◌, ◌-◌, ◌*◌, ◌/◌, ◌<◌, ◌≤◌, min, cond, List, [], ◌∷◌, ◌++◌, length, get_or, take, drop, set, sym, refl, ap, ◌∙◌, subst, ⊎_elim, arith, length-append, length-take}
+use Rattle.std.proofs.Common.{◌≡◌, ℕ, zero, suc, ◌+◌, ◌-◌, ◌*◌, ◌/◌, ◌<◌, ◌≤◌, min, cond, List, [], ◌∷◌, ◌++◌, length, get_or, take, drop, sym, refl, ap, ◌∙◌, subst, ⊎_elim, arith, length-append}
+use Rattle.std.proofs.lemmas.List.{append_assoc}
 use Rattle.std.proofs.lemmas.Bool.{cases_lt, lt-ltb, le-ltb}
 use Rattle.journal.specs.Memory.{overlaid}
 use Rattle.image.specs.declared.run.Run.{Run}
@@ -9,7 +10,6 @@ use Rattle.image.specs.Runs.{run, is_declared, Apart, Inside}
 use Rattle.image.specs.Cut.{piece, end, cut, cut_runs, laid, AllPieces}
 use Rattle.image.specs.Calls.{listed}
 use Rattle.image.proofs.Facts.{within_run, below_run, above_run, apart_out, inside_out}
-use Rattle.image.proofs.Lists.{put_next}
 use Rattle.image.proofs.Copying.{over, over_declared, overlaid_part}
 
 pub cut_some : (n f t : ℕ) → f < t → cut (suc n) f t ≡ piece f (end f t - f) ∷ cut n (end f t) t
@@ -158,20 +158,15 @@ runs_lay (r ∷ rs) m (h, rest) l i v =
     ∙ ap (λ (w : ℕ). laid (cut_runs rs) m i w) (laid_cut 64 r.from r.to m i v (λ s. omega arith) (omega arith))
     ∙ runs_lay rs m rest l i (over r m i v) ∙ over_declared r rs m i v
 
--- the runs in use have few pieces
-pub few_of : (s : Runs) → length (cut_runs (listed s)) ≤ 79
-few_of s =
-    runs_few (listed s) (apart_out 0 (listed s) s.apart) (inside_out (listed s) s.inside) (simp length-take (omega arith))
+-- the runs in use have few pieces, so there is room for those of each run
+pub room_left : (s : Runs) (out ps rest : List Piece) → length (listed s) ≤ 16 → out ++ (ps ++ rest) ≡ cut_runs (listed s) → length out + length ps ≤ 79
+room_left s out ps rest h was =
+    let few = runs_few (listed s) (apart_out 0 (listed s) s.apart) (inside_out (listed s) s.inside) h in
+    omega (arith, simp length-append at (ap length was))
 
--- while pieces are left, not all places are written
-pub room_left : (f t n : ℕ) (out rest ys : List Piece) → f < t → length out ≡ 79 → n ≤ 79 → length ys ≤ 79 → take n out ++ (cut 64 f t ++ rest) ≡ ys → n < 79
-room_left f t n out rest ys h sized few most was =
-    let k = ap length (cut_some 63 f t h) in omega (arith, simp (length-append, length-take) at (ap length was))
-
--- one piece more is written
-pub next_piece : (f t e n : ℕ) (out rest ys : List Piece) → f < t → t ≤ 6144 → e ≡ end f t → n < length out
-    → take n out ++ (cut 64 f t ++ rest) ≡ ys → take (n + 1) (set out n (piece f (e - f))) ++ (cut 64 e t ++ rest) ≡ ys
-next_piece f t e n out rest ys h k same room was =
-    put_next n out (cut 64 e t ++ rest) (piece f (e - f)) room
-    ∙ ap (λ (x : ℕ). take n out ++ piece f (x - f) ∷ (cut 64 x t ++ rest)) same
-    ∙ ap (λ (ps : List Piece). take n out ++ (ps ++ rest)) (sym (cut_next f t h k)) ∙ was
+-- one piece more is put in
+pub next_piece : (f t e : ℕ) (out new ys : List Piece) → f < t → t ≤ 6144 → e ≡ end f t → new ≡ out ++ piece f (e - f) ∷ []
+    → out ++ cut 64 f t ≡ ys → new ++ cut 64 e t ≡ ys
+next_piece f t e out new ys h k same made was =
+    ap (λ (ps : List Piece). ps ++ cut 64 e t) made ∙ append_assoc out (piece f (e - f) ∷ []) (cut 64 e t)
+    ∙ ap (λ (x : ℕ). out ++ piece f (x - f) ∷ cut 64 x t) same ∙ ap (λ (ps : List Piece). out ++ ps) (sym (cut_next f t h k)) ∙ was

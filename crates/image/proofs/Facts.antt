@@ -1,13 +1,12 @@
 -- The ghost facts of runs, and what they say of each run and each byte.
-use Rattle.std.proofs.Common.{◌≡◌, ℕ, zero, suc, ◌+◌, ◌<◌, ◌≤◌, Bool, true, false, cond, eqb, ltb, leb, ◌⊎◌, List, [], ◌∷◌, length, get_or, take, refl, ap, ◌∙◌, subst, inl, inr, ⊎_elim, arith, length-take}
+use Rattle.std.proofs.Common.{◌≡◌, ℕ, zero, suc, ◌+◌, ◌<◌, ◌≤◌, Bool, true, false, cond, ltb, leb, ◌⊎◌, List, [], ◌∷◌, length, get_or, drop, sym, refl, ap, ◌∙◌, subst, inl, inr, ⊎_elim, arith, add-one}
 use mathlib.Core.Logic.{∥∥₁_elim, ∥∥₁_map}
 use mathlib.Core.HLevel.{⊥_prop}
-use Rattle.std.proofs.lemmas.List.{get_or-take}
-use Rattle.std.proofs.lemmas.Bool.{cases_lt, le-leb, lt-leb, lt-ltb, le-ltb, ne_eqb}
+use Rattle.std.proofs.lemmas.Bool.{cases_lt, le-leb, lt-leb, lt-ltb, le-ltb}
 use Rattle.image.specs.declared.run.Run.{Run}
 use Rattle.image.specs.declared.runs.Runs.{Runs}
-use Rattle.image.specs.Runs.{run, Declared, is_declared, Apart, Inside}
-use Rattle.image.specs.Calls.{listed, none}
+use Rattle.image.specs.Runs.{Declared, is_declared, Apart, Inside}
+use Rattle.image.specs.Calls.{listed}
 
 -- an order is one fact, so it comes out of a truncation
 pub le_out : (a b : ℕ) → ∥ a ≤ b ∥₁ → a ≤ b
@@ -87,17 +86,13 @@ cases_declared (r ∷ rs) i =
           (cases_lt i r.from)
     ]
 
--- the run at place k of those counted
-pub bounds : (s : Runs) (k : ℕ) → k < s.count → ((get_or s.items k (run 0 0)).from < (get_or s.items k (run 0 0)).to) × ((get_or s.items k (run 0 0)).to ≤ 6144)
-bounds s k h =
-    let l : k < length (listed s) = simp length-take (omega arith) in
-    let e = get_or-take s.count s.items k (run 0 0) h in (
-      subst (λ (r : Run). r.from < r.to) e (some_at 0 (listed s) k (run 0 0) (apart_out 0 (listed s) s.apart) l),
-      subst (λ (r : Run). r.to ≤ 6144) e (inside_at (listed s) k (run 0 0) (inside_out (listed s) s.inside) l),
-    )
+-- the run at place k of xs, which are the runs of s
+pub bounds : (s : Runs) (xs : List Run) (k : ℕ) (d : Run) → xs ≡ listed s → k < length xs → ((get_or xs k d).from < (get_or xs k d).to) × ((get_or xs k d).to ≤ 6144)
+bounds s xs k d e h =
+    (some_at 0 xs k d (subst (Apart 0) (sym e) (apart_out 0 (listed s) s.apart)) h, inside_at xs k d (subst Inside (sym e) (inside_out (listed s) s.inside)) h)
 
--- there are no runs where none is counted
-pub none_counted : (c : ℕ) (xs : List Run) → c ≤ length xs → eqb c 0 ≡ none (take c xs)
-none_counted zero xs h = refl
-none_counted (suc c) [] h = absurd (omega arith)
-none_counted (suc c) (x ∷ xs) h = ne_eqb (suc c) 0 (λ e. omega arith)
+-- those after it lie above it
+pub apart_after : (floor : ℕ) (rs : List Run) (k : ℕ) (d : Run) → Apart floor rs → k < length rs → Apart ((get_or rs k d).to + 1) (drop (k + 1) rs)
+apart_after floor [] k d h l = absurd (omega arith)
+apart_after floor (r ∷ rs) zero d h l = h.2
+apart_after floor (r ∷ rs) (suc k) d h l = simp add-one (simp add-one at (apart_after (r.to + 1) rs k d h.2 (omega arith)))

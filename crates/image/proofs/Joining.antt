@@ -1,9 +1,9 @@
 -- What is declared once a stretch is joined in, and that runs stay apart.
-use Rattle.std.proofs.Common.{◌≡◌, ℕ, ◌+◌, ◌<◌, ◌≤◌, min, max, ◌⊎◌, List, [], ◌∷◌, ◌++◌, length, take, set, sym, ap, ◌∙◌, subst, inl, inr, ⊎_elim, arith, length-append, length-take}
+use Rattle.std.proofs.Common.{◌≡◌, ℕ, ◌+◌, ◌<◌, ◌≤◌, min, max, ◌⊎◌, List, [], ◌∷◌, ◌++◌, length, sym, refl, ap, ◌∙◌, subst, inl, inr, ⊎_elim, arith}
+use Rattle.std.proofs.lemmas.List.{append_assoc}
 use Rattle.std.proofs.lemmas.Bool.{cases_lt, lt-ltb, le-ltb}
 use Rattle.image.specs.declared.run.Run.{Run}
 use Rattle.image.specs.Runs.{run, Declared, Apart, Inside, joined}
-use Rattle.image.proofs.Lists.{put_next}
 
 -- the three ways a stretch meets the first run
 before : (f t : ℕ) (r : Run) (rs : List Run) → t < r.from → joined f t (r ∷ rs) ≡ run f t ∷ r ∷ rs
@@ -97,30 +97,6 @@ joined_inside f t (r ∷ rs) h (a, rest) =
     (cases_lt r.to f))
     (cases_lt t r.from)
 
--- the steps of a loop over runs: n are written, and the stretch from f to t is still to be joined in
-pub keeps_run : (f t n : ℕ) (out xs rest ys : List Run) (r : Run) → n < length out → xs ≡ r ∷ rest → r.from ≤ t → r.to < f
-    → take n out ++ joined f t xs ≡ ys → take (n + 1) (set out n r) ++ joined f t rest ≡ ys
-keeps_run f t n out xs rest ys r room e h k was =
-    put_next n out (joined f t rest) r room
-    ∙ ap (λ (zs : List Run). take n out ++ zs) (sym (after f t r rest h k) ∙ ap (joined f t) (sym e)) ∙ was
-
-pub takes_run : (f t n : ℕ) (out xs rest ys : List Run) (r : Run) → xs ≡ r ∷ rest → r.from ≤ t → f ≤ r.to
-    → take n out ++ joined f t xs ≡ ys → take n out ++ joined (min f r.from) (max t r.to) rest ≡ ys
-takes_run f t n out xs rest ys r e h k was =
-    ap (λ (zs : List Run). take n out ++ zs) (sym (meets f t r rest h k) ∙ ap (joined f t) (sym e)) ∙ was
-
-pub puts_last : (f t n : ℕ) (out xs ys : List Run) → n < length out → xs ≡ []
-    → take n out ++ joined f t xs ≡ ys → take (n + 1) (set out n (run f t)) ++ xs ≡ ys
-puts_last f t n out xs ys room e was =
-    put_next n out xs (run f t) room
-    ∙ ap (λ (zs : List Run). take n out ++ zs) (ap (λ (zs : List Run). run f t ∷ zs) e ∙ ap (joined f t) (sym e)) ∙ was
-
-pub puts_before : (f t n : ℕ) (out xs rest ys : List Run) (r : Run) → n < length out → xs ≡ r ∷ rest → t < r.from
-    → take n out ++ joined f t xs ≡ ys → take (n + 1) (set out n (run f t)) ++ xs ≡ ys
-puts_before f t n out xs rest ys r room e h was =
-    put_next n out xs (run f t) room
-    ∙ ap (λ (zs : List Run). take n out ++ zs) (ap (λ (zs : List Run). run f t ∷ zs) e ∙ sym (before f t r rest h) ∙ ap (joined f t) (sym e)) ∙ was
-
 -- a stretch joined in makes at least one run
 pub joined_some : (f t : ℕ) (rs : List Run) → 1 ≤ length (joined f t rs)
 joined_some f t [] = omega arith
@@ -134,11 +110,26 @@ joined_some f t (r ∷ rs) =
     (cases_lt r.to f))
     (cases_lt t r.from)
 
--- where the sixteen places are full and more is to come, there are too many
-pub too_many : (n : ℕ) (out rest ys : List Run) → n ≡ 16 → length out ≡ 16 → 1 ≤ length rest → take n out ++ rest ≡ ys → 16 < length ys
-too_many n out rest ys full h k e = omega (arith, simp (length-append, length-take) at (ap length e))
+-- below every run a stretch is put first
+joined_low : (f t : ℕ) (rs : List Run) → Apart (t + 1) rs → joined f t rs ≡ run f t ∷ rs
+joined_low f t [] h = refl
+joined_low f t (r ∷ rs) (h, some, rest) = before f t r rs (omega arith)
 
--- the same with each part under another name
-pub renamed : (f g t u n m : ℕ) (out into xs ys : List Run) → g ≡ f → u ≡ t → m ≡ n → into ≡ out
-    → take n out ++ joined f t xs ≡ ys → take m into ++ joined g u xs ≡ ys
-renamed f g t u n m out into xs ys a b c d was = cc
+-- the steps of a loop over runs, with a stretch still to be joined into those left
+pub puts_stretch : (f t : ℕ) (out new rest ys : List Run) (r : Run) → new ≡ out ++ run f t ∷ [] → t < r.from → Apart (r.to + 1) rest
+    → out ++ joined f t (r ∷ rest) ≡ ys → new ++ joined r.from r.to rest ≡ ys
+puts_stretch f t out new rest ys r made h apart was =
+    ap (λ (zs : List Run). zs ++ joined r.from r.to rest) made
+    ∙ append_assoc out (run f t ∷ []) (joined r.from r.to rest)
+    ∙ ap (λ (zs : List Run). out ++ run f t ∷ zs) (joined_low r.from r.to rest apart)
+    ∙ ap (λ (zs : List Run). out ++ zs) (sym (before f t r rest h)) ∙ was
+
+pub puts_run : (f t : ℕ) (out new rest ys : List Run) (r : Run) → new ≡ out ++ r ∷ [] → r.from ≤ t → r.to < f
+    → out ++ joined f t (r ∷ rest) ≡ ys → new ++ joined f t rest ≡ ys
+puts_run f t out new rest ys r made h k was =
+    ap (λ (zs : List Run). zs ++ joined f t rest) made ∙ append_assoc out (r ∷ []) (joined f t rest)
+    ∙ ap (λ (zs : List Run). out ++ zs) (sym (after f t r rest h k)) ∙ was
+
+pub takes_run : (f t g u : ℕ) (out rest ys : List Run) (r : Run) → g ≡ min f r.from → u ≡ max t r.to → r.from ≤ t → f ≤ r.to
+    → out ++ joined f t (r ∷ rest) ≡ ys → out ++ joined g u rest ≡ ys
+takes_run f t g u out rest ys r low high h k was = let e = meets f t r rest h k in cc

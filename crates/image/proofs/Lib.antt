@@ -1,6 +1,5 @@
 -- Laws of declared runs and of the pieces that they are cut into.
 pub mod Facts
-pub mod Lists
 pub mod Joining
 pub mod Reaching
 pub mod Copying

@@ -1,5 +1,5 @@
 -- Going on from a byte as far as runs declare.
-use Rattle.std.proofs.Common.{◌≡◌, ℕ, ◌+◌, ◌<◌, ◌≤◌, cond, List, [], ◌∷◌, sym, refl, ap, ◌∙◌, subst, inl, inr, ⊎_elim, arith}
+use Rattle.std.proofs.Common.{◌≡◌, ℕ, ◌+◌, ◌<◌, ◌≤◌, cond, List, [], ◌∷◌, refl, ap, ◌∙◌, subst, inl, inr, ⊎_elim, arith}
 use Rattle.std.proofs.lemmas.Bool.{cases_lt}
 use Rattle.image.specs.declared.run.Run.{Run}
 use Rattle.image.specs.Runs.{Declared, Apart}
@@ -72,7 +72,3 @@ reached_is start rs b apart e =
       before = λ i h k. reach_all start rs i h (omega arith);
       here = λ h. reach_here start 0 rs apart (subst (λ (x : ℕ). Declared rs x) e h);
     }
-
--- one run more is passed
-pub reach_on : (r : Run) (xs rest : List Run) (at new end : ℕ) → xs ≡ r ∷ rest → new ≡ past r at → reach at xs ≡ end → reach new rest ≡ end
-reach_on r xs rest at new end e p was = ap (λ x. reach x rest) p ∙ ap (reach at) (sym e) ∙ was

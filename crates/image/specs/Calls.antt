@@ -1,5 +1,5 @@
 -- What the calls on the memory do.
-use Rattle.std.specs.Prelude.{◌≡◌, ℕ, ◌+◌, ◌<◌, ◌≤◌, Bool, true, false, ◌⊎◌, List, [], ◌∷◌, length, take, drop, Some, None, Ok, Err, Option, Result, slice_index}
+use Rattle.std.specs.Prelude.{◌≡◌, ℕ, ◌+◌, ◌<◌, ◌≤◌, Bool, true, false, List, [], ◌∷◌, length, take, drop, Some, None, Ok, Err, Option, Result, slice_index}
 use Rattle.journal.specs.Memory.{overlaid}
 use Rattle.image.specs.declared.run.Run.{Run}
 use Rattle.image.specs.declared.run.ImageFault.{ImageFault}
@@ -7,9 +7,10 @@ use Rattle.image.specs.declared.run.ImageFault.TheVariants.{Range, Runs as Too-m
 use Rattle.image.specs.declared.runs.Runs.{Runs}
 use Rattle.image.specs.declared.state.Image.{Image}
 use Rattle.image.specs.Runs.{Declared, joined}
+use Rattle.image.specs.Stretch.{InRange, OutOfRange}
 
 abbrev pub listed : Runs → List Run
-listed x = take x.count x.items
+listed x = x.items.items
 
 -- The declared runs.
 abbrev pub declared : Image → List Run
@@ -18,12 +19,6 @@ declared x = listed x.runs
 abbrev pub none : List Run → Bool
 none [] = true
 none (r ∷ rs) = false
-
-abbrev pub InRange : ℕ → ℕ → Type 0
-InRange start size = (1 ≤ size) × (start + size ≤ 6144)
-
-abbrev pub OutOfRange : ℕ → ℕ → Type 0
-OutOfRange start size = (size ≡ 0) ⊎ (6144 < start + size)
 
 -- A stretch joined in, or too many runs.
 abbrev pub With : ℕ → ℕ → List Run → Option Runs → Type 0
@@ -95,11 +90,6 @@ Reads start x before (Ok _) after = InRange start (length before) × (after ≡ 
 Reads start x before (Err (Range s)) after = Unread start s before after
 Reads start x before (Err (Too-many _)) after = ⊥
 Reads start x before (Err (Undeclared _)) after = ⊥
-
--- The memory is m, and was so before.
-pub record Level (m : List ℕ) (y : Image) : Type 0 where
-  pub memory : y.memory ≡ m
-  pub before : y.before ≡ m
 
 -- The memory as it was before, with nothing declared.
 pub record Restored (x y : Image) : Type 0 where

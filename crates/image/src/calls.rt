@@ -1,9 +1,9 @@
 // What is done with the memory.
-ghost use Rattle.image.specs.Calls.{declared, none, Declares, Writes, Reads, Level, Restored, Kept};
+ghost use Rattle.image.specs.Calls.{declared, none, Declares, Writes, Reads, Restored, Kept};
 ghost use Rattle.image.specs.Cut.{cut_runs};
-ghost use Rattle.std.specs.Prelude.{◌≡◌, [], take, replicate};
+ghost use Rattle.std.specs.Prelude.{◌≡◌, [], replicate};
 
-use crate::run::{ImageFault, MEMORY};
+use crate::run::{ImageFault, MEMORY, Run};
 use crate::runs::{Pieces, Runs};
 use crate::state::Image;
 
@@ -14,11 +14,7 @@ impl Image {
         ensures before { result.before ≡ replicate 6144 0 }
         ensures clean { declared result ≡ [] }
     {
-        Image {
-            memory: [0u8; MEMORY],
-            before: [0u8; MEMORY],
-            runs: Runs::none(),
-        }
+        Image::of([0; MEMORY])
     }
 
     // This memory, with nothing declared.
@@ -30,7 +26,7 @@ impl Image {
         Image {
             memory,
             before: memory,
-            runs: Runs::none(),
+            runs: Runs::new(),
         }
     }
 
@@ -45,31 +41,21 @@ impl Image {
     pub fn declare(&mut self, start: usize, size: usize) -> Result<(), ImageFault>
         ensures { Declares start size self.old result self.new }
     {
-        if size == 0 || size > MEMORY || start > MEMORY - size {
-            return Err(ImageFault::Range(start));
-        }
-        match self.runs.with(start, start + size) {
-            Some(runs) => {
-                self.runs = runs;
-                Ok(())
-            }
-            None => Err(ImageFault::Runs(start)),
-        }
+        let stretch = Run::within(start, size)?;
+        self.runs = self.runs.with(stretch).ok_or(ImageFault::Runs(start))?;
+        Ok(())
     }
 
     // Puts the bytes in from `start` on, where every byte of that stretch is declared.
     pub fn write(&mut self, start: usize, bytes: &[u8]) -> Result<(), ImageFault>
         ensures { Writes start bytes.now self.old result self.new }
     {
-        let size = bytes.len();
-        if size == 0 || size > MEMORY || start > MEMORY - size {
-            return Err(ImageFault::Range(start));
-        }
+        let end = Run::within(start, bytes.len())?.to;
         let reached = self.runs.reached(start);
-        if reached < start + size {
+        if reached < end {
             return Err(ImageFault::Undeclared(reached));
         }
-        self.memory[start..start + size].copy_from_slice(bytes);
+        self.memory[start..end].copy_from_slice(bytes);
         Ok(())
     }
 
@@ -77,47 +63,30 @@ impl Image {
     pub fn read(&self, start: usize, buffer: &mut [u8]) -> Result<(), ImageFault>
         ensures { Reads start self.now buffer.old result buffer.new }
     {
-        let size = buffer.len();
-        if size == 0 || size > MEMORY || start > MEMORY - size {
-            return Err(ImageFault::Range(start));
-        }
-        buffer.copy_from_slice(&self.memory[start..start + size]);
+        let end = Run::within(start, buffer.len())?.to;
+        buffer.copy_from_slice(&self.memory[start..end]);
         Ok(())
-    }
-
-    // Copies the declared bytes back into the memory.
-    fn undo(&mut self)
-        ensures { Level self.old.before self.new }
-    {
-        self.runs.copy(&self.before, &mut self.memory);
-    }
-
-    // Copies the declared bytes out of the memory.
-    fn settle(&mut self)
-        ensures { Level self.old.memory self.new }
-    {
-        self.runs.copy(&self.memory, &mut self.before);
     }
 
     // Makes the memory what it was before, with nothing declared.
     pub fn restore(&mut self)
         ensures { Restored self.old self.new }
     {
-        self.undo();
-        self.runs = Runs::none();
+        self.runs.copy(&self.before, &mut self.memory);
+        self.runs = Runs::new();
     }
 
     // Keeps the memory as it is, with nothing declared.
     pub fn keep(&mut self)
         ensures { Kept self.old self.new }
     {
-        self.settle();
-        self.runs = Runs::none();
+        self.runs.copy(&self.memory, &mut self.before);
+        self.runs = Runs::new();
     }
 
     // The declared runs cut at the bounds of pages, the lowest first.
     pub fn pieces(&self) -> Pieces
-        ensures { take result.count result.items ≡ cut_runs (declared self.now) }
+        ensures { result.items ≡ cut_runs (declared self.now) }
     {
         self.runs.pieces()
     }

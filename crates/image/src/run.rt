@@ -1,4 +1,10 @@
 // Stretches of the memory.
+ghost use Rattle.std.specs.Prelude.{◌≡◌, ℕ, ◌+◌, ◌/◌, ◌%◌, ◌≤◌, [], ◌∷◌, ◌++◌, length, if◌then◌else◌, slice_index};
+ghost use Rattle.image.specs.Runs.{is_declared};
+ghost use Rattle.image.specs.Cut.{cut};
+ghost use Rattle.image.specs.Stretch.{Stretches};
+
+use crate::runs::Pieces;
 
 // The number of bytes in the memory: 64 pages of 96.
 pub const MEMORY: usize = 6144;
@@ -7,21 +13,78 @@ pub const MEMORY: usize = 6144;
 pub const PAGE: usize = 96;
 
 // The bytes from `from` up to, and not with, `to`.
-#[derive(Clone, Copy)]
+#[derive(Clone, Copy, PartialEq, Eq, Debug, Default)]
 pub struct Run {
     pub from: usize,
     pub to: usize,
 }
 
+impl Run {
+    // So many bytes of the memory from `start` on.
+    pub(crate) fn within(start: usize, size: usize) -> Result<Run, ImageFault>
+        ensures { Stretches start size result }
+    {
+        if size == 0 || size > MEMORY || start > MEMORY - size {
+            return Err(ImageFault::Range(start));
+        }
+        Ok(Run {
+            from: start,
+            to: start + size,
+        })
+    }
+
+    // Copies the bytes of the run.
+    pub(crate) fn copy(&self, source: &[u8; MEMORY], target: &mut [u8; MEMORY])
+        requires some { self.now.from ≤ self.now.to }
+        requires inside { self.now.to ≤ 6144 }
+        ensures { (i : ℕ) → slice_index target.new i ≡ (if is_declared (self.now ∷ []) i then slice_index source.now i else slice_index target.old i) }
+    {
+        target[self.from..self.to].copy_from_slice(&source[self.from..self.to]);
+    }
+
+    // Puts the pieces of the run behind the others.
+    pub(crate) fn cut(&self, pieces: &mut Pieces)
+        requires inside { self.now.to ≤ 6144 }
+        requires room { length pieces.old.items + length (cut 64 self.now.from self.now.to) ≤ 79 }
+        ensures { pieces.new.items ≡ pieces.old.items ++ cut 64 self.now.from self.now.to }
+    {
+        let mut from = self.from;
+        while from < self.to {
+            let end = ((from / PAGE + 1) * PAGE).min(self.to);
+            pieces.push(Piece {
+                start: from,
+                size: end - from,
+            });
+            from = end;
+        }
+    }
+}
+
 // So many bytes from `start` on, all in one page.
-#[derive(Clone, Copy)]
+#[derive(Clone, Copy, PartialEq, Eq, Debug, Default)]
 pub struct Piece {
     pub start: usize,
     pub size: usize,
 }
 
+impl Piece {
+    // The page that it lies in.
+    pub fn page(&self) -> usize
+        ensures { result ≡ self.now.start / 96 }
+    {
+        self.start / PAGE
+    }
+
+    // Where in its page it begins.
+    pub fn offset(&self) -> usize
+        ensures { result ≡ self.now.start % 96 }
+    {
+        self.start % PAGE
+    }
+}
+
 // Why a call is refused.
-#[derive(Clone, Copy)]
+#[derive(Clone, Copy, PartialEq, Eq, Debug)]
 pub enum ImageFault {
     // The stretch from this byte on has no bytes, or goes past the memory.
     Range(usize),

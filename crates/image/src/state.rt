@@ -1,5 +1,5 @@
 // The memory of a store, and what it was when the transaction began.
-ghost use Rattle.std.specs.Prelude.{◌≡◌, ℕ, length, take, slice_index};
+ghost use Rattle.std.specs.Prelude.{◌≡◌, ℕ, length, slice_index};
 ghost use Rattle.image.specs.Runs.{Declared};
 
 use crate::run::MEMORY;
@@ -13,5 +13,5 @@ pub struct Image {
     pub runs: Runs,
     ghost whole: { length memory ≡ 6144 },
     ghost kept: { length before ≡ 6144 },
-    ghost same: { (i : ℕ) → (Declared (take runs.count runs.items) i → ⊥) → slice_index memory i ≡ slice_index before i },
+    ghost same: { (i : ℕ) → (Declared runs.items.items i → ⊥) → slice_index memory i ≡ slice_index before i },
 }

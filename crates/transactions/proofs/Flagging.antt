@@ -1,8 +1,8 @@
--- Flags of pages, and the pages that a test chooses.
-use Rattle.std.proofs.Common.{◌≡◌, ℕ, zero, suc, ◌+◌, ◌-◌, ◌<◌, ◌≤◌, Bool, true, false, cond, eqb, List, [], ◌∷◌, length, get_or, set, sym, refl, ap, ◌∙◌, subst, inl, inr, ⊎_elim, arith, get_or-set_other, get_or-set_same}
-use Rattle.std.proofs.lemmas.Bool.{cases_eq, eq-eqb, ne_eqb}
+-- What is said of pages, and the pages that a test chooses.
+use Rattle.std.proofs.Common.{◌≡◌, ℕ, zero, suc, ◌+◌, ◌-◌, ◌<◌, ◌≤◌, Bool, true, false, cond, List, [], ◌∷◌, ◌++◌, length, get_or, sym, refl, ap, ◌∙◌, subst, inl, inr, ⊎_elim, arith}
+use Rattle.std.proofs.lemmas.List.{append_assoc}
+use Rattle.std.proofs.lemmas.Bool.{cases_eq}
 use Rattle.device.specs.Disk.{Among}
-use Rattle.transactions.specs.Pages.{flag, Raised}
 use Rattle.transactions.specs.Truncation.{chosen}
 
 -- What is chosen of the pages from i up to n begins with i, where i passes.
@@ -33,30 +33,29 @@ chosen_same test test' i (suc k) n h same =
     ap (λ (b : Bool). cond b (i ∷ chosen test (i + 1) k) (chosen test (i + 1) k)) e
     ∙ ap (λ (ps : List ℕ). cond (test' i) (i ∷ ps) ps) rest
 
--- the flag that was raised, and those that were not
-pub raised : (flags : List Bool) (page : ℕ) → page < length flags → Raised page true flags (set flags page true)
-raised flags page h p small =
-    ⊎_elim
-    (λ (e : page ≡ p).
-    let t = eq-eqb page p e in
-    rw t (ap (λ (q : ℕ). get_or (set flags page true) q false) (sym e) ∙ get_or-set_same flags page true false h))
-    (λ ne.
-    let t = ne_eqb page p ne in
-    rw t (get_or-set_other flags page p true false (λ k. ne (sym k))))
-    (cases_eq page p)
-
-pub left_alone : (flags : List Bool) (page : ℕ) → Raised page false flags flags
-left_alone flags page p small = either (eqb page p)
+-- what is chosen are pages of those looked at
+pub chosen_inside : (test : ℕ → Bool) (i k n j : ℕ) → i + k ≤ n → j < length (chosen test i k) → get_or (chosen test i k) j 0 < n
+unfolding chosen
+chosen_inside test i zero n j h l = absurd (omega arith)
+chosen_inside test i (suc k) n j h l = go (test i) (λ m. chosen_inside test (i + 1) k n m (omega arith)) j l
   where
-    either : (b : Bool) → flag flags p ≡ cond (cond b false false) true (flag flags p)
-    either true = refl
-    either false = refl
+    go : (c : Bool) → ((m : ℕ) → m < length (chosen test (i + 1) k) → get_or (chosen test (i + 1) k) m 0 < n) → (j : ℕ)
+        → j < length (cond c (i ∷ chosen test (i + 1) k) (chosen test (i + 1) k)) → get_or (cond c (i ∷ chosen test (i + 1) k) (chosen test (i + 1) k)) j 0 < n
+    go true rest zero l = omega arith
+    go true rest (suc j) l = rest j (omega arith)
+    go false rest j l = rest j l
 
--- there is no such page
-pub none_such : (flags : List Bool) (page : ℕ) (lift : Bool) → 64 ≤ page → Raised page lift flags flags
-none_such flags page lift h p small = let t = ne_eqb page p (λ e. omega arith) in rw t refl
+-- page i is put in behind those chosen below it, or passed
+pub puts_page : (test : ℕ → Bool) (i : ℕ) (out new ys : List ℕ) → i < 64 → test i ≡ true → new ≡ out ++ i ∷ [] → out ++ onward test i 64 ≡ ys → new ++ onward test (i + 1) 64 ≡ ys
+puts_page test i out new ys h t made was =
+    ap (λ (ps : List ℕ). ps ++ onward test (i + 1) 64) made ∙ append_assoc out (i ∷ []) (onward test (i + 1) 64)
+    ∙ ap (λ (ps : List ℕ). out ++ ps) (sym (chosen_one test i 64 h t)) ∙ was
 
--- what is chosen passes the test, and all that passes is chosen
+pub passes_page : (test : ℕ → Bool) (i : ℕ) (out new ys : List ℕ) → i < 64 → test i ≡ false → new ≡ out → out ++ onward test i 64 ≡ ys → new ++ onward test (i + 1) 64 ≡ ys
+passes_page test i out new ys h t made was =
+    ap (λ (ps : List ℕ). ps ++ onward test (i + 1) 64) made ∙ ap (λ (ps : List ℕ). out ++ ps) (sym (chosen_pass test i 64 h t)) ∙ was
+
+-- all that passes is chosen
 pub chosen_has : (test : ℕ → Bool) (i k p : ℕ) → i ≤ p → p < i + k → test p ≡ true → Among p (chosen test i k)
 unfolding chosen
 chosen_has test i zero p a b t = absurd (omega arith)
@@ -71,14 +70,3 @@ chosen_has test i (suc k) p a b t =
     past : (c : Bool) → Among p (chosen test (i + 1) k) → Among p (cond c (i ∷ chosen test (i + 1) k) (chosen test (i + 1) k))
     past true h = inr h
     past false h = h
-
-pub chosen_only : (test : ℕ → Bool) (i k p : ℕ) → Among p (chosen test i k) → (test p ≡ true) × (p < i + k)
-unfolding chosen
-chosen_only test i zero p h = absurd h
-chosen_only test i (suc k) p h = split (test i) refl (λ r. chosen_only test (i + 1) k p r) h
-  where
-    split : (c : Bool) → test i ≡ c → (Among p (chosen test (i + 1) k) → (test p ≡ true) × (p < i + 1 + k)) → Among p (cond c (i ∷ chosen test (i + 1) k) (chosen test (i + 1) k))
-        → (test p ≡ true) × (p < i + suc k)
-    split true t further (inl e) = (ap test e ∙ t, omega arith)
-    split true t further (inr r) = ((further r).0, omega (arith, (further r).1))
-    split false t further r = ((further r).0, omega (arith, (further r).1))

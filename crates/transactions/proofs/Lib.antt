@@ -3,5 +3,5 @@ pub mod Loops
 pub mod Plans
 pub mod Flagging
 pub mod Noting
-pub mod Going
 pub mod Truncating
+pub mod Lying

@@ -1,21 +1,36 @@
 -- Records written one after another.
-use Rattle.std.proofs.Common.{◌≡◌, ℕ, zero, suc, ◌+◌, ◌%◌, ◌<◌, ◌≤◌, Bool, false, cond, eqb, List, [], ◌∷◌, ◌++◌, map, length, get_or, take, drop, Err, sym, refl, ap, ◌∙◌, subst, ⊎_elim, add-zero, add-one, arith, length-append, length-take, drop-cons, get_or-take}
+use Rattle.std.proofs.Common.{◌≡◌, ℕ, zero, suc, ◌+◌, ◌%◌, ◌<◌, ◌≤◌, Bool, false, cond, eqb, List, [], ◌∷◌, ◌++◌, map, length, get_or, take, drop, Err, sym, refl, ap, ◌∙◌, subst, ⊎_elim, arith, length-append, drop-cons}
 use Rattle.std.proofs.lemmas.Bool.{cases_eq, eq-eqb, ne_eqb}
-use Rattle.std.proofs.lemmas.List.{length-map, get_or-map, drop_all, take_more}
+use Rattle.std.proofs.lemmas.List.{length-map, get_or-map, drop_all, drop_more, take_more}
+use Rattle.arrayvec.specs.ArrayVec.{ArrayVec, array_vec_len}
 use Rattle.device.specs.declared.fault.DeviceFault.{DeviceFault}
 use Rattle.device.specs.Disk.{Disk}
 use Rattle.device.specs.Trace.{Act, wrote, Done, Tries}
-use Rattle.device.proofs.Plans.{Working, work_begins, plan_goes, work_ends, work_cut, done_plate}
+use Rattle.device.proofs.Plans.{Working, plan_goes, work_ends, work_cut, done_plate}
 use Rattle.record.specs.Entry.{laid_out}
 use Rattle.durability.specs.Items.{Item, recorded, appending}
 use Rattle.image.specs.declared.run.Piece.{Piece}
-use Rattle.image.specs.declared.runs.Pieces.{Pieces}
 use Rattle.image.specs.Cut.{FitsPage, AllPieces, piece}
-use Rattle.transactions.specs.declared.spool.Spool.{Spool}
 use Rattle.transactions.specs.declared.state.State.{State}
-use Rattle.transactions.specs.Parts.{part, parts, item_of, waiting}
+use Rattle.transactions.specs.Parts.{Spool, part, parts, item_of, waiting}
 use Rattle.transactions.specs.State as state
 use Rattle.transactions.specs.Steps.{PiecesOf}
+
+-- A plan goes on by its next act, or is cut in it.
+pub going_on : (start here e : Disk) (all left rest : List Act) (a : Act) → left ≡ a ∷ rest → Working start all here left → Done here (a ∷ []) e → Working start all e rest
+going_on start here e all left rest a next w done =
+    plan_goes start here e all (a ∷ []) rest (subst (λ (p : List Act). Working start all here p) next w) done (done_plate here e (a ∷ []) done)
+
+pub going_cut : (start here e : Disk) (all left rest : List Act) (a : Act) (f : DeviceFault) → left ≡ a ∷ rest → Working start all here left → Tries here (a ∷ []) (Err f) e
+    → Tries start all (Err f) e
+going_cut start here e all left rest a f next w did = work_cut start here e all rest a f (subst (λ (p : List Act). Working start all here p) next w) did
+
+pub going_ends : (start here : Disk) (all left : List Act) → left ≡ [] → Working start all here left → Done start all here
+going_ends start here all left none w = work_ends start here all (subst (λ (p : List Act). Working start all here p) none w)
+
+-- a device has as many sectors as it had
+pub still_room : (n : ℕ) (start here : Disk) (all left : List Act) → Working start all here left → n ≤ start.plate.sectors → n ≤ here.plate.sectors
+still_room n start here all left w h = omega (arith, ap (λ v. v.sectors) w.plate)
 
 -- The record with serial s is written.
 abbrev pub written_as : ℕ → ℕ → ℕ → Item → Act
@@ -25,15 +40,9 @@ written_as n low s x = wrote (s % n) (laid_out (recorded low s x))
 abbrev pub left : ℕ → ℕ → ℕ → List Item → ℕ → List Act
 left n low last xs i = appending n low (last + i) (drop i xs)
 
--- All the items were to be written from `start`, and i of them are. That the log lies on the device is a
--- premise, as it is in the contracts.
+-- All the items were to be written from `start`, and i of them are.
 abbrev pub Appending : ℕ → ℕ → ℕ → List Item → Disk → Disk → ℕ → Type 0
-Appending n low last xs start here i =
-    n ≤ start.plate.sectors → Working start (appending n low last xs) here (left n low last xs i)
-
-pub append_begins : (n low last : ℕ) (xs : List Item) (d : Disk) → Appending n low last xs d d 0
-append_begins n low last xs d room =
-    subst (λ (s : ℕ). Working d (appending n low last xs) d (appending n low s xs)) (sym (add-zero last)) (work_begins d (appending n low last xs))
+Appending n low last xs start here i = Working start (appending n low last xs) here (left n low last xs i)
 
 -- what is left begins with the next item
 left_next : (n low last i : ℕ) (x : Item) (xs : List Item) → drop i xs ≡ x ∷ drop (i + 1) xs → left n low last xs i ≡ written_as n low (last + 1 + i) x ∷ left n low last xs (i + 1)
@@ -44,48 +53,30 @@ left_next n low last i x xs h =
     ∙ ap (λ (s : ℕ). written_as n low s x ∷ appending n low s (drop (i + 1) xs)) e
     ∙ ap (λ (s : ℕ). written_as n low (last + 1 + i) x ∷ appending n low s (drop (i + 1) xs)) f
 
-room_here : (n : ℕ) (start here : Disk) → here.plate ≡ start.plate → n ≤ start.plate.sectors → n ≤ here.plate.sectors
-room_here n start here p h = omega (arith, ap (λ v. v.sectors) p)
-
 -- one item more is written
 pub append_goes : (n low last i : ℕ) (x : Item) (xs : List Item) (start here e : Disk) → drop i xs ≡ x ∷ drop (i + 1) xs → Appending n low last xs start here i
-    → (n ≤ here.plate.sectors → Done here (written_as n low (last + 1 + i) x ∷ []) e) → Appending n low last xs start e (i + 1)
-append_goes n low last i x xs start here e next w did room =
-    let now = w room in
-    let here_room = room_here n start here now.plate room in
-    let done = did here_room in
-    plan_goes start here e (appending n low last xs) (written_as n low (last + 1 + i) x ∷ []) (left n low last xs (i + 1))
-    (subst (λ (p : List Act). Working start (appending n low last xs) here p) (left_next n low last i x xs next) now)
-    done (done_plate here e (written_as n low (last + 1 + i) x ∷ []) done)
+    → Done here (written_as n low (last + 1 + i) x ∷ []) e → Appending n low last xs start e (i + 1)
+append_goes n low last i x xs start here e next =
+    going_on start here e (appending n low last xs) (left n low last xs i) (left n low last xs (i + 1)) (written_as n low (last + 1 + i) x) (left_next n low last i x xs next)
 
 -- power failed in writing the next
 pub append_cut : (n low last i : ℕ) (x : Item) (xs : List Item) (start here e : Disk) (f : DeviceFault) → drop i xs ≡ x ∷ drop (i + 1) xs → Appending n low last xs start here i
-    → (n ≤ here.plate.sectors → Tries here (written_as n low (last + 1 + i) x ∷ []) (Err f) e) → n ≤ start.plate.sectors → Tries start (appending n low last xs) (Err f) e
-append_cut n low last i x xs start here e f next w did room =
-    let now = w room in
-    let here_room = room_here n start here now.plate room in
-    work_cut start here e (appending n low last xs) (left n low last xs (i + 1)) (written_as n low (last + 1 + i) x) f
-    (subst (λ (p : List Act). Working start (appending n low last xs) here p) (left_next n low last i x xs next) now)
-    (did here_room)
+    → Tries here (written_as n low (last + 1 + i) x ∷ []) (Err f) e → Tries start (appending n low last xs) (Err f) e
+append_cut n low last i x xs start here e f next =
+    going_cut start here e (appending n low last xs) (left n low last xs i) (left n low last xs (i + 1)) (written_as n low (last + 1 + i) x) f (left_next n low last i x xs next)
 
 -- all are written
-pub append_ends : (n low last i : ℕ) (xs : List Item) (start here : Disk) → length xs ≤ i → Appending n low last xs start here i → n ≤ start.plate.sectors → Done start (appending n low last xs) here
-append_ends n low last i xs start here h w room =
-    work_ends start here (appending n low last xs)
-    (subst (λ (ys : List Item). Working start (appending n low last xs) here (appending n low (last + i) ys)) (drop_all i xs h) (w room))
+pub append_ends : (n low last i : ℕ) (xs : List Item) (start here : Disk) → length xs ≤ i → Appending n low last xs start here i → Done start (appending n low last xs) here
+append_ends n low last i xs start here h =
+    going_ends start here (appending n low last xs) (left n low last xs i) (ap (appending n low (last + i)) (drop_all i xs h))
 
-pub length_take_all : {X : Type 0} (k : ℕ) (xs : List X) → k ≤ length xs → length (take k xs) ≡ k
-length_take_all k xs h = omega (arith, length-take k xs)
-
--- the next of a list's first k, each seen through f
-pub next_seen : {X : Type 0} (f : X → Item) (xs : List X) (k i : ℕ) (d : X) → i < k → k ≤ length xs → drop i (map f (take k xs)) ≡ f (get_or xs i d) ∷ drop (i + 1) (map f (take k xs))
-next_seen f xs k i d h all =
-    let short : length (take k xs) ≡ k = length_take_all k xs all in
-    let long : length (map f (take k xs)) ≡ k = length-map (take k xs) f ∙ short in
-    let there : i < length (map f (take k xs)) = omega arith in
-    let inner : i < length (take k xs) = omega arith in
-    let item : get_or (map f (take k xs)) i (f d) ≡ f (get_or xs i d) = get_or-map f (take k xs) i d (f d) inner ∙ ap f (get_or-take k xs i d h) in
-    drop-cons (map f (take k xs)) i (f d) there ∙ ap (λ (y : Item). y ∷ drop (suc i) (map f (take k xs))) item ∙ ap (λ (j : ℕ). f (get_or xs i d) ∷ drop j (map f (take k xs))) (sym (add-one i))
+-- the next of a list is x, seen through f; ys is the list by another name
+pub next_seen : {X : Type 0} (f : X → Item) (xs ys : List X) (i : ℕ) (x : X) → x ≡ get_or xs i x → xs ≡ ys → i < length xs
+    → drop i (map f ys) ≡ f x ∷ drop (i + 1) (map f ys)
+next_seen {X = X} f xs ys i x here same h =
+    let there : i < length (map f xs) = simp length-map h in
+    subst (λ (zs : List X). drop i (map f zs) ≡ f x ∷ drop (i + 1) (map f zs)) same
+    (drop_more (map f xs) i (f x) there ∙ ap (λ (y : Item). y ∷ drop (i + 1) (map f xs)) (get_or-map f xs i x (f x) h ∙ ap f (sym here)))
 
 suc_add : (i : ℕ) → suc i + 1 ≡ suc (i + 1)
 suc_add i = omega arith
@@ -120,59 +111,38 @@ fits_at [] i d h all = absurd (omega arith)
 fits_at (p ∷ ps) zero d h (here, rest) = here
 fits_at (p ∷ ps) (suc i) d h (here, rest) = fits_at ps i d (omega arith) rest
 
--- The pieces that were cut, and their parts.
-abbrev pub listed : Pieces → List Piece
-listed ps = take ps.count ps.items
+-- the part at i of these n pieces
+abbrev pub part_at : ℕ → List ℕ → ℕ → List Piece → ℕ → Item
+part_at o memory n ps i = part o memory (cond (eqb (i + 1) n) 2 1) (get_or ps i (piece 0 0))
 
-abbrev pub own : ℕ → List ℕ → Pieces → List Item
-own o memory ps = parts o memory (listed ps)
-
-abbrev pub none : Piece
-none = piece 0 0
-
-length_listed : (ps : Pieces) → length (listed ps) ≡ ps.count
-length_listed ps = length_take_all ps.count ps.items (omega (arith, ps.sized, ps.few))
-
-pub length_own : (o : ℕ) (memory : List ℕ) (ps : Pieces) → length (own o memory ps) ≡ ps.count
-length_own o memory ps = length_parts o memory (listed ps) ∙ length_listed ps
-
-pub fits_listed : (ps : Pieces) (i : ℕ) → i < ps.count → AllPieces (listed ps) → FitsPage (get_or ps.items i none)
-fits_listed ps i h fit =
-    let there : i < length (listed ps) = omega (arith, length_listed ps) in
-    subst (λ (p : Piece). FitsPage p) (get_or-take ps.count ps.items i none h) (fits_at (listed ps) i none there fit)
-
--- the part at i
-abbrev pub part_at : ℕ → List ℕ → Pieces → ℕ → Item
-part_at o memory ps i = part o memory (cond (eqb (i + 1) ps.count) 2 1) (get_or ps.items i none)
-
--- the parts begin, after i pieces, with that of the piece at i
-pub next_own : (o : ℕ) (memory : List ℕ) (ps : Pieces) (i : ℕ) → i < ps.count → drop i (own o memory ps) ≡ part_at o memory ps i ∷ drop (i + 1) (own o memory ps)
-next_own o memory ps i h =
-    let inside : i < length (listed ps) = omega (arith, length_listed ps) in
-    next_part o memory (listed ps) i none inside
-    ∙ ap (λ (p : Piece). part o memory (cond (eqb (i + 1) (length (listed ps))) 2 1) p ∷ drop (i + 1) (own o memory ps)) (get_or-take ps.count ps.items i none h)
-    ∙ ap (λ (k : ℕ). part o memory (cond (eqb (i + 1) k) 2 1) (get_or ps.items i none) ∷ drop (i + 1) (own o memory ps)) (length_listed ps)
+-- the parts begin, after i pieces, with that of the piece at i; qs are the pieces by another name
+pub next_own : (o : ℕ) (memory : List ℕ) (n : ℕ) (ps qs : List Piece) (i : ℕ) → ps ≡ qs → n ≡ length qs → i < length ps
+    → drop i (parts o memory qs) ≡ part_at o memory n ps i ∷ drop (i + 1) (parts o memory qs)
+next_own o memory n ps qs i same count h =
+    subst (λ (xs : List Piece). drop i (parts o memory xs) ≡ part_at o memory n ps i ∷ drop (i + 1) (parts o memory xs)) same
+    (subst (λ (k : ℕ). drop i (parts o memory ps) ≡ part_at o memory k ps i ∷ drop (i + 1) (parts o memory ps)) (ap length same ∙ sym count)
+    (next_part o memory ps i (piece 0 0) h))
 
 -- one part more of them
-pub taken_part : (o : ℕ) (memory : List ℕ) (ps : Pieces) (i : ℕ) → i < ps.count → take (i + 1) (own o memory ps) ≡ take i (own o memory ps) ++ part_at o memory ps i ∷ []
-taken_part o memory ps i h =
-    let x = part_at o memory ps i in
-    let xs = own o memory ps in
-    let there : i < length xs = omega (arith, length_own o memory ps) in
-    let same : get_or xs i x ≡ x = ap (λ (ys : List Item). get_or ys 0 x) (sym (drop-cons xs i x there) ∙ next_own o memory ps i h) in
+pub taken_part : (o : ℕ) (memory : List ℕ) (n : ℕ) (ps qs : List Piece) (i : ℕ) → ps ≡ qs → n ≡ length qs → i < length ps
+    → take (i + 1) (parts o memory qs) ≡ take i (parts o memory qs) ++ part_at o memory n ps i ∷ []
+taken_part o memory n ps qs i e count h =
+    let x = part_at o memory n ps i in
+    let xs = parts o memory qs in
+    let there : i < length xs = omega (arith, length_parts o memory qs, ap length e) in
+    let same : get_or xs i x ≡ x = ap (λ (ys : List Item). get_or ys 0 x) (sym (drop-cons xs i x there) ∙ next_own o memory n ps qs i e count h) in
     take_more xs i x there ∙ ap (λ (y : Item). take i xs ++ y ∷ []) same
 
 -- what waits, and what a state's transaction becomes
-pub length_waiting : (s : Spool) → length (waiting s) ≡ s.count
-length_waiting s =
-    length-map (take s.count s.items) item_of ∙ length_take_all s.count s.items (omega (arith, s.sized, s.few))
+pub length_waiting : (s : Spool) → length (waiting s) ≡ array_vec_len s
+length_waiting s = length-map s.items item_of
 
-pub own_is : (s : State) (ps : Pieces) → PiecesOf s ps → own (s.log.ordinal + 1) s.image.memory ps ≡ state.own s
+pub own_is : (s : State) (ps : ArrayVec Piece) → PiecesOf s ps → parts (s.log.ordinal + 1) s.image.memory ps.items ≡ state.own s
 own_is s ps e = ap (λ (xs : List Piece). parts (s.log.ordinal + 1) s.image.memory xs) e
 
-pub length_of_own : (s : State) (ps : Pieces) → PiecesOf s ps → length (state.own s) ≡ ps.count
-length_of_own s ps e = ap length (sym (own_is s ps e)) ∙ length_own (s.log.ordinal + 1) s.image.memory ps
+pub length_of_own : (s : State) (ps : ArrayVec Piece) → PiecesOf s ps → length (state.own s) ≡ array_vec_len ps
+length_of_own s ps e = ap length (sym (own_is s ps e)) ∙ length_parts (s.log.ordinal + 1) s.image.memory ps.items
 
-pub length_all : (s : State) (ps : Pieces) → PiecesOf s ps → length (waiting s.spool ++ state.own s) ≡ s.spool.count + ps.count
+pub length_all : (s : State) (ps : ArrayVec Piece) → PiecesOf s ps → length (waiting s.spool ++ state.own s) ≡ array_vec_len s.spool + array_vec_len ps
 length_all s ps e =
     omega (arith, length-append (waiting s.spool) (state.own s), length_waiting s.spool, length_of_own s ps e)

@@ -10,11 +10,10 @@ use Rattle.record.specs.Entry.{Entry}
 use Rattle.journal.specs.Log.{log as log_of}
 use Rattle.durability.specs.Items.{Item, recorded}
 use Rattle.transactions.specs.declared.log.Log.{Log}
-use Rattle.transactions.specs.declared.pages.Pages.{Pages}
-use Rattle.transactions.specs.declared.spool.Spool.{Spool}
+use Rattle.transactions.specs.declared.pages.Page.{Page}
 use Rattle.transactions.specs.declared.state.State.{State}
-use Rattle.transactions.specs.Pages.{flag, Flags, Noted, FoundFirst, FoundWaiting, Found}
-use Rattle.transactions.specs.Parts.{waiting}
+use Rattle.transactions.specs.Pages.{named_in, covered_in, Agree, Noted, FoundFirst, FoundWaiting, Found}
+use Rattle.transactions.specs.Parts.{Spool, waiting}
 use Rattle.transactions.specs.State.{live}
 use Rattle.transactions.specs.Truncation.{names, covers, in_log, in_items, said_of}
 
@@ -43,90 +42,90 @@ pub in_log_more : (says : Entry → ℕ → Bool) (l : ℕ → Entry) (low k p :
 unfolding in_log
 in_log_more says l low k p = rw add-one refl
 
-flags_none : (says : Entry → ℕ → Bool) (l : ℕ → Entry) (low : ℕ) (flags : List Bool) → Flags flags (λ p. cond (in_log says l low 0 p) true (flag flags p))
-flags_none says l low flags p small = ap (λ (b : Bool). cond b true (flag flags p)) (sym (in_log_none says l low p))
+flags_none : (says : Entry → ℕ → Bool) (l : ℕ → Entry) (low : ℕ) (flags : ℕ → Bool) → Agree flags (λ p. cond (in_log says l low 0 p) true (flags p))
+flags_none says l low flags p small = ap (λ (b : Bool). cond b true (flags p)) (sym (in_log_none says l low p))
 
-flags_more : (says : Entry → ℕ → Bool) (l : ℕ → Entry) (low k : ℕ) (start before after : List Bool)
-    → Flags before (λ p. cond (in_log says l low k p) true (flag start p)) → Flags after (λ p. cond (says (l (low + k)) p) true (flag before p))
-    → Flags after (λ p. cond (in_log says l low (k + 1) p) true (flag start p))
+flags_more : (says : Entry → ℕ → Bool) (l : ℕ → Entry) (low k : ℕ) (start before after : ℕ → Bool)
+    → Agree before (λ p. cond (in_log says l low k p) true (start p)) → Agree after (λ p. cond (says (l (low + k)) p) true (before p))
+    → Agree after (λ p. cond (in_log says l low (k + 1) p) true (start p))
 flags_more says l low k start before after old new p small =
     new p small
     ∙ ap (λ (b : Bool). cond (says (l (low + k)) p) true b) (old p small)
-    ∙ or_group (says (l (low + k)) p) (in_log says l low k p) (flag start p)
-    ∙ ap (λ (b : Bool). cond b true (flag start p)) (sym (in_log_more says l low k p))
+    ∙ or_group (says (l (low + k)) p) (in_log says l low k p) (start p)
+    ∙ ap (λ (b : Bool). cond b true (start p)) (sym (in_log_more says l low k p))
 
-pub found_none : (log : Log) (shows : ℕ → Shown) (ps : Pages) → FoundFirst log shows 0 ps ps
+pub found_none : (log : Log) (shows : ℕ → Shown) (ps : List Page) → FoundFirst log shows 0 ps ps
 found_none log shows ps =
     record {
-      named = flags_none names (log_of log.places shows) log.low ps.named;
-      covered = flags_none covers (log_of log.places shows) log.low ps.covered;
+      named = flags_none names (log_of log.places shows) log.low (named_in ps);
+      covered = flags_none covers (log_of log.places shows) log.low (covered_in ps);
     }
 
-pub found_more : (log : Log) (shows : ℕ → Shown) (k : ℕ) (start before after : Pages) → FoundFirst log shows k start before
+pub found_more : (log : Log) (shows : ℕ → Shown) (k : ℕ) (start before after : List Page) → FoundFirst log shows k start before
     → Noted (log_of log.places shows (log.low + k)) before after → FoundFirst log shows (k + 1) start after
 found_more log shows k start before after old new =
     let l = log_of log.places shows in
     record {
-      named = flags_more names l log.low k start.named before.named after.named old.named new.named;
-      covered = flags_more covers l log.low k start.covered before.covered after.covered old.covered new.covered;
+      named = flags_more names l log.low k (named_in start) (named_in before) (named_in after) old.named new.named;
+      covered = flags_more covers l log.low k (covered_in start) (covered_in before) (covered_in after) old.covered new.covered;
     }
 
--- Flags with what the items that are left say of them come to the flags with what all the items say.
-abbrev pub Leaves : (Entry → ℕ → Bool) → List Item → List Item → List Bool → List Bool → Type 0
+-- Agree with what the items that are left say of them come to the flags with what all the items say.
+abbrev pub Leaves : (Entry → ℕ → Bool) → List Item → List Item → (ℕ → Bool) → (ℕ → Bool) → Type 0
 Leaves says all rest start flags =
-    (p : ℕ) → p < 64 → cond (flag flags p) true (in_items says rest p) ≡ cond (flag start p) true (in_items says all p)
+    (p : ℕ) → p < 64 → cond (flags p) true (in_items says rest p) ≡ cond (start p) true (in_items says all p)
 
-pub record FoundPart (xs : List Item) (i : ℕ) (start after : Pages) : Type 0 where
-  pub named : Leaves names xs (drop i xs) start.named after.named
-  pub covered : Leaves covers xs (drop i xs) start.covered after.covered
+pub record FoundPart (xs : List Item) (i : ℕ) (start after : List Page) : Type 0 where
+  pub named : Leaves names xs (drop i xs) (named_in start) (named_in after)
+  pub covered : Leaves covers xs (drop i xs) (covered_in start) (covered_in after)
 
-pub part_none : (xs : List Item) (ps : Pages) → FoundPart xs 0 ps ps
+pub part_none : (xs : List Item) (ps : List Page) → FoundPart xs 0 ps ps
 part_none xs ps = record { named = λ p small. refl; covered = λ p small. refl }
 
-leaves_less : (says : Entry → ℕ → Bool) (all rest : List Item) (x : Item) (start before after : List Bool) → Leaves says all (x ∷ rest) start before
-    → Flags after (λ p. cond (says (recorded 0 0 x) p) true (flag before p)) → Leaves says all rest start after
+leaves_less : (says : Entry → ℕ → Bool) (all rest : List Item) (x : Item) (start before after : ℕ → Bool) → Leaves says all (x ∷ rest) start before
+    → Agree after (λ p. cond (says (recorded 0 0 x) p) true (before p)) → Leaves says all rest start after
 leaves_less says all rest x start before after old new p small =
     ap (λ (b : Bool). cond b true (in_items says rest p)) (new p small)
-    ∙ sym (or_move (says (recorded 0 0 x) p) (flag before p) (in_items says rest p))
+    ∙ sym (or_move (says (recorded 0 0 x) p) (before p) (in_items says rest p))
     ∙ old p small
 
-pub part_more : (xs : List Item) (i : ℕ) (x : Item) (start before after : Pages) → drop i xs ≡ x ∷ drop (i + 1) xs → FoundPart xs i start before
+pub part_more : (xs : List Item) (i : ℕ) (x : Item) (start before after : List Page) → drop i xs ≡ x ∷ drop (i + 1) xs → FoundPart xs i start before
     → Noted (recorded 0 0 x) before after → FoundPart xs (i + 1) start after
 part_more xs i x start before after next old new =
     record {
-      named = leaves_less names xs (drop (i + 1) xs) x start.named before.named after.named (subst (λ (ys : List Item). Leaves names xs ys start.named before.named) next old.named) new.named;
-      covered = leaves_less covers xs (drop (i + 1) xs) x start.covered before.covered after.covered (subst (λ (ys : List Item). Leaves covers xs ys start.covered before.covered) next old.covered) new.covered;
+      named = leaves_less names xs (drop (i + 1) xs) x (named_in start) (named_in before) (named_in after) (subst (λ (ys : List Item). Leaves names xs ys (named_in start) (named_in before)) next old.named) new.named;
+      covered = leaves_less covers xs (drop (i + 1) xs) x (covered_in start) (covered_in before) (covered_in after) (subst (λ (ys : List Item). Leaves covers xs ys (covered_in start) (covered_in before)) next old.covered) new.covered;
     }
 
-leaves_none : (says : Entry → ℕ → Bool) (all rest : List Item) (start after : List Bool) → rest ≡ [] → Leaves says all rest start after → Flags after (λ p. cond (flag start p) true (in_items says all p))
+leaves_none : (says : Entry → ℕ → Bool) (all rest : List Item) (start after : ℕ → Bool) → rest ≡ [] → Leaves says all rest start after → Agree after (λ p. cond (start p) true (in_items says all p))
 leaves_none says all rest start after none old p small =
-    sym (or_none (flag after p)) ∙ ap (λ (ys : List Item). cond (flag after p) true (in_items says ys p)) (sym none) ∙ old p small
+    sym (or_none (after p)) ∙ ap (λ (ys : List Item). cond (after p) true (in_items says ys p)) (sym none) ∙ old p small
 
-pub part_all : (s : Spool) (i : ℕ) (start after : Pages) → length (waiting s) ≤ i → FoundPart (waiting s) i start after → FoundWaiting s start after
+pub part_all : (s : Spool) (i : ℕ) (start after : List Page) → length (waiting s) ≤ i → FoundPart (waiting s) i start after → FoundWaiting s start after
 part_all s i start after h old =
     let none = drop_all i (waiting s) h in
     record {
-      named = leaves_none names (waiting s) (drop i (waiting s)) start.named after.named none old.named;
-      covered = leaves_none covers (waiting s) (drop i (waiting s)) start.covered after.covered none old.covered;
+      named = leaves_none names (waiting s) (drop i (waiting s)) (named_in start) (named_in after) none old.named;
+      covered = leaves_none covers (waiting s) (drop i (waiting s)) (covered_in start) (covered_in after) none old.covered;
     }
 
 -- both, from flags of which none is raised
 
-flags_both : (says : Entry → ℕ → Bool) (s : State) (shows : ℕ → Shown) (none first all : List Bool) → ((p : ℕ) → p < 64 → flag none p ≡ false)
-    → Flags first (λ p. cond (in_log says (log_of s.log.places shows) s.log.low (live s) p) true (flag none p))
-    → Flags all (λ p. cond (flag first p) true (in_items says (waiting s.spool) p)) → Flags all (said_of says s shows)
+flags_both : (says : Entry → ℕ → Bool) (s : State) (shows : ℕ → Shown) (none first all : ℕ → Bool) → ((p : ℕ) → p < 64 → none p ≡ false)
+    → Agree first (λ p. cond (in_log says (log_of s.log.places shows) s.log.low (live s) p) true (none p))
+    → Agree all (λ p. cond (first p) true (in_items says (waiting s.spool) p)) → Agree all (said_of says s shows)
 flags_both says s shows none first all down old new p small =
     let live? = in_log says (log_of s.log.places shows) s.log.low (live s) p in
     new p small
     ∙ ap (λ (b : Bool). cond b true (in_items says (waiting s.spool) p))
     (old p small ∙ ap (λ (b : Bool). cond live? true b) (down p small) ∙ or_none live?)
 
-pub found_all : (s : State) (shows : ℕ → Shown) (none first all : Pages) → ((p : ℕ) → p < 64 → flag none.named p ≡ false) → ((p : ℕ) → p < 64 → flag none.covered p ≡ false)
+pub found_all : (s : State) (shows : ℕ → Shown) (none first all : List Page) → ((p : ℕ) → p < 64 → named_in none p ≡ false) → ((p : ℕ) → p < 64 → covered_in none p ≡ false)
     → FoundFirst s.log shows (live s) none first → FoundWaiting s.spool first all → Found s shows all
 found_all s shows none first all a b old new =
     record {
-      named = flags_both names s shows none.named first.named all.named a old.named new.named;
-      covered = flags_both covers s shows none.covered first.covered all.covered b old.covered new.covered;
+      named = flags_both names s shows (named_in none) (named_in first) (named_in all) a old.named new.named;
+      covered = flags_both covers s shows (covered_in none) (covered_in first) (covered_in all) b old.covered new.covered;
     }
 
 -- power that fails in looking, on a device that is as it was

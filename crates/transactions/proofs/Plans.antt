@@ -1,6 +1,8 @@
 -- What a flush and a commit write, and what their tests let through.
-use Rattle.std.proofs.Common.{◌≡◌, ℕ, suc, ◌+◌, ◌-◌, ◌^◌, ◌<◌, ◌≤◌, Bool, true, false, cond, not, ltb, ◌≢◌, List, [], ◌∷◌, ◌++◌, length, take, Some, None, Err, Option, sym, refl, ap, ◌∙◌, subst, ⊎_elim, add-zero, arith}
+use Rattle.std.proofs.Common.{◌≡◌, ℕ, suc, ◌+◌, ◌-◌, ◌^◌, ◌<◌, ◌≤◌, Bool, true, false, cond, not, ltb, ◌≢◌, List, [], ◌∷◌, ◌++◌, map, length, Some, None, Err, Option, sym, refl, ap, ◌∙◌, subst, ⊎_elim, add-zero, arith}
 use Rattle.std.proofs.lemmas.Bool.{cases_lt, ltb-false}
+use Rattle.std.proofs.lemmas.List.{nil_from_length}
+use Rattle.arrayvec.specs.ArrayVec.{ArrayVec, array_vec_len}
 use Rattle.device.specs.declared.fault.DeviceFault.{DeviceFault}
 use Rattle.device.specs.declared.fault.DeviceFault.TheVariants.{Power, Misaddressed, Unfit, Spoiled}
 use Rattle.device.specs.Disk.{Disk}
@@ -9,7 +11,6 @@ use Rattle.device.specs.Trace.{Act, settled, Done, Tries}
 use Rattle.device.proofs.Plans.{work_begins, plan_cut, tries_after, barrier_tried, done_plate}
 use Rattle.durability.specs.Items.{Item, appending}
 use Rattle.image.specs.declared.run.Piece.{Piece}
-use Rattle.image.specs.declared.runs.Pieces.{Pieces}
 use Rattle.image.specs.Cut.{AllPieces}
 use Rattle.image.proofs.Cutting.{runs_fit, runs_none}
 use Rattle.image.proofs.Facts.{apart_out, inside_out}
@@ -18,19 +19,17 @@ use Rattle.transactions.specs.declared.fault.StoreFault.{StoreFault}
 use Rattle.transactions.specs.declared.fault.StoreFault.TheVariants.{Device}
 use Rattle.transactions.specs.declared.state.State.{State}
 use Rattle.transactions.specs.Calls.{writing, CutWriting}
-use Rattle.transactions.specs.Parts.{waiting}
+use Rattle.transactions.specs.Parts.{parts, waiting}
 use Rattle.transactions.specs.Rows.{Row, first_fit, off, serials, full, spool_full, commit_rows}
 use Rattle.transactions.specs.State as state
 use Rattle.transactions.specs.State.{live, OnLog}
 use Rattle.transactions.specs.Steps.{PiecesOf}
-use Rattle.transactions.proofs.Loops.{own, own_is, length_waiting, length_of_own, listed, written_as}
+use Rattle.transactions.specs.Truncation.{page_item}
+use Rattle.transactions.proofs.Loops.{own_is, length_waiting, length_of_own, written_as}
 
 -- a log with its homes lies on the device
 pub on_device : (s : State) (d : Disk) → OnLog s d → s.log.places ≤ d.plate.sectors
 on_device s d h = omega arith
-
-pub homes_on_device : (s : State) (d : Disk) → OnLog s d → s.log.places + 64 ≤ d.plate.sectors
-homes_on_device s d h = omega arith
 
 -- and stays there
 pub still_on : (s : State) (d e : Disk) (plan : List Act) → Done d plan e → OnLog s d → OnLog s e
@@ -47,14 +46,20 @@ appending_two n low last (x ∷ xs) ys zs =
 abbrev pub spool_plan : State → List Act
 spool_plan s = appending s.log.places s.log.low s.log.last (waiting s.spool)
 
-abbrev pub piece_plan : State → Pieces → List Act
-piece_plan s ps = appending s.log.places s.log.low (s.log.last + s.spool.count) (own (s.log.ordinal + 1) s.image.memory ps)
+abbrev pub pieces_after : State → ArrayVec Piece → ℕ → List Act
+pieces_after s ps last = appending s.log.places s.log.low last (parts (s.log.ordinal + 1) s.image.memory ps.items)
 
-pub commit_plan : (s : State) (ps : Pieces) → PiecesOf s ps → writing s (waiting s.spool ++ state.own s) ≡ spool_plan s ++ (piece_plan s ps ++ (settled ∷ []))
+abbrev pub pages_after : State → ℕ → List ℕ → List Act
+pages_after s last ps = appending s.log.places s.log.low last (map (page_item s.log.ordinal s.image.memory) ps)
+
+abbrev pub piece_plan : State → ArrayVec Piece → List Act
+piece_plan s ps = pieces_after s ps (s.log.last + array_vec_len s.spool)
+
+pub commit_plan : (s : State) (ps : ArrayVec Piece) → PiecesOf s ps → writing s (waiting s.spool ++ state.own s) ≡ spool_plan s ++ (piece_plan s ps ++ (settled ∷ []))
 commit_plan s ps e =
     appending_two s.log.places s.log.low s.log.last (waiting s.spool) (state.own s) (settled ∷ [])
     ∙ ap (λ (k : ℕ). spool_plan s ++ (appending s.log.places s.log.low (s.log.last + k) (state.own s) ++ (settled ∷ []))) (length_waiting s.spool)
-    ∙ ap (λ (xs : List Item). spool_plan s ++ (appending s.log.places s.log.low (s.log.last + s.spool.count) xs ++ (settled ∷ []))) (sym (own_is s ps e))
+    ∙ ap (λ (xs : List Item). spool_plan s ++ (appending s.log.places s.log.low (s.log.last + array_vec_len s.spool) xs ++ (settled ∷ []))) (sym (own_is s ps e))
 
 -- power failed in the first part of a plan
 pub cut_first : (d e : Disk) (first rest : List Act) (f : DeviceFault) → Tries d first (Err f) e → Tries d (first ++ rest) (Err f) e
@@ -66,9 +71,9 @@ then_settled d m e first r h k = tries_after d m e first (settled ∷ []) r h (b
 
 -- What the tests of a commit let through.
 pub record Roomy (s : State) (k : ℕ) (flush : Bool) : Type 0 where
-  pub serials : s.log.last + s.spool.count + k + 65 ≤ 2 ^ 63 - 1
-  pub places : live s + s.spool.count + k ≤ s.log.places - 65
-  pub spool : flush ≡ false → s.spool.count + k ≤ 32
+  pub serials : s.log.last + array_vec_len s.spool + k + 65 ≤ 2 ^ 63 - 1
+  pub places : live s + array_vec_len s.spool + k ≤ s.log.places - 65
+  pub spool : flush ≡ false → array_vec_len s.spool + k ≤ 32
 
 none_fits : (b : Bool) (f : StoreFault) (rest : Option StoreFault) → cond b (Some f) rest ≡ None → (b ≡ false) × (rest ≡ None)
 none_fits true f rest h = let z : ◌≡◌ {A = ℕ} 0 1 = cc in absurd (omega arith)
@@ -80,13 +85,13 @@ roomy s k flush h =
     let two = none_fits (full s k).0 (full s k).1 (first_fit (spool_full s k flush ∷ [])) one.1 in
     let three = none_fits (spool_full s k flush).0 (spool_full s k flush).1 None two.1 in
     record {
-      serials = ltb-false (2 ^ 63 - 1) (s.log.last + s.spool.count + k + 65) one.0;
-      places = ltb-false (s.log.places - 65) (live s + s.spool.count + k) two.0;
-      spool = λ e. ltb-false 32 (s.spool.count + k) (subst (λ (x : Bool). cond x false (ltb 32 (s.spool.count + k)) ≡ false) e three.0);
+      serials = ltb-false (2 ^ 63 - 1) (s.log.last + array_vec_len s.spool + k + 65) one.0;
+      places = ltb-false (s.log.places - 65) (live s + array_vec_len s.spool + k) two.0;
+      spool = λ e. ltb-false 32 (array_vec_len s.spool + k) (subst (λ (x : Bool). cond x false (ltb 32 (array_vec_len s.spool + k)) ≡ false) e three.0);
     }
 
 -- the pieces of what is declared fit their pages
-pub pieces_fit : (s : State) (ps : Pieces) → PiecesOf s ps → AllPieces (listed ps)
+pub pieces_fit : (s : State) (ps : ArrayVec Piece) → PiecesOf s ps → AllPieces ps.items
 pieces_fit s ps e =
     subst (λ (xs : List Piece). AllPieces xs) (sym e)
     (runs_fit (declared s.image) (inside_out (declared s.image) s.image.runs.inside))
@@ -99,20 +104,20 @@ writing_cut s s' d e items Unfit h same off = absurd h
 writing_cut s s' d e items (Spoiled x o) h same off = absurd h
 
 -- something declared is at least one piece
-pub some_pieces : (s : State) (ps : Pieces) → PiecesOf s ps → declared s.image ≢ [] → 1 ≤ ps.count
+pub some_pieces : (s : State) (ps : ArrayVec Piece) → PiecesOf s ps → declared s.image ≢ [] → 1 ≤ array_vec_len ps
 some_pieces s ps e some =
     ⊎_elim
-    (λ (h : ps.count < 1).
-    let none : ps.count ≡ 0 = omega arith in
-    absurd (some (runs_none (declared s.image) (apart_out 0 (declared s.image) s.image.runs.apart) (sym e ∙ ap (λ (k : ℕ). take k ps.items) none))))
+    (λ (h : length ps.items < 1).
+    let none = nil_from_length ps.items (omega arith) in
+    absurd (some (runs_none (declared s.image) (apart_out 0 (declared s.image) s.image.runs.apart) (sym e ∙ none))))
     (λ h. h)
-    (cases_lt ps.count 1)
+    (cases_lt (length ps.items) 1)
 
 -- the tests of a commit, by the records that the transaction becomes
-pub passes_own : (s : State) (ps : Pieces) (flush : Bool) → PiecesOf s ps → first_fit (commit_rows s ps.count flush) ≡ None → first_fit (commit_rows s (length (state.own s)) flush) ≡ None
+pub passes_own : (s : State) (ps : ArrayVec Piece) (flush : Bool) → PiecesOf s ps → first_fit (commit_rows s (array_vec_len ps) flush) ≡ None → first_fit (commit_rows s (length (state.own s)) flush) ≡ None
 passes_own s ps flush e h = subst (λ (k : ℕ). first_fit (commit_rows s k flush) ≡ None) (sym (length_of_own s ps e)) h
 
-pub refused_own : (s : State) (ps : Pieces) (flush : Bool) (f : StoreFault) → PiecesOf s ps → first_fit (commit_rows s ps.count flush) ≡ Some f → first_fit (commit_rows s (length (state.own s)) flush) ≡ Some f
+pub refused_own : (s : State) (ps : ArrayVec Piece) (flush : Bool) (f : StoreFault) → PiecesOf s ps → first_fit (commit_rows s (array_vec_len ps) flush) ≡ Some f → first_fit (commit_rows s (length (state.own s)) flush) ≡ Some f
 refused_own s ps flush f e h = subst (λ (k : ℕ). first_fit (commit_rows s k flush) ≡ Some f) (sym (length_of_own s ps e)) h
 
 -- a call that is past its first test is one of a store that is on

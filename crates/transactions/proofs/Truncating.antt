@@ -1,6 +1,7 @@
 -- What a truncation found, as lists of pages, and what its tests say together.
-use Rattle.std.proofs.Common.{◌≡◌, ℕ, zero, suc, ◌<◌, ◌≤◌, Bool, true, false, cond, not, ltb, leb, ◌≢◌, List, [], ◌∷◌, map, length, take, None, Err, refl, ap, ◌∙◌, subst, inr, ⊎_elim, arith}
-use Rattle.std.proofs.lemmas.Bool.{cases_lt, eq-eqb}
+use Rattle.std.proofs.Common.{◌≡◌, ℕ, ◌<◌, ◌≤◌, Bool, true, false, cond, not, eqb, ltb, leb, ◌≢◌, List, [], ◌∷◌, map, length, None, Err, refl, ap, ◌∙◌, subst, inr, ⊎_elim, arith}
+use Rattle.std.proofs.lemmas.Bool.{cases_lt, eq-eqb, eqb-false}
+use Rattle.arrayvec.specs.ArrayVec.{array_vec_len}
 use Rattle.device.specs.declared.fault.DeviceFault.{DeviceFault}
 use Rattle.device.specs.declared.fault.DeviceFault.TheVariants.{Power, Misaddressed, Unfit, Spoiled}
 use Rattle.device.specs.Disk.{Disk, Shown, Among}
@@ -8,42 +9,39 @@ use Rattle.device.specs.Trace.{Tries}
 use Rattle.journal.specs.Log.{log}
 use Rattle.durability.specs.Items.{Item, recorded}
 use Rattle.transactions.specs.declared.fault.StoreFault.TheVariants.{Device}
-use Rattle.transactions.specs.declared.pages.Pages.{Pages}
-use Rattle.transactions.specs.declared.spool.Spool.{Spool}
+use Rattle.transactions.specs.declared.pages.Page.{Page}
+use Rattle.transactions.specs.declared.pages.Dirty.{Dirty}
 use Rattle.transactions.specs.declared.spool.Spooled.{Spooled}
 use Rattle.transactions.specs.declared.state.State.{State}
-use Rattle.transactions.specs.Pages.{flag, Flags, needed, Found}
-use Rattle.transactions.specs.Parts.{item_of, waiting}
+use Rattle.transactions.specs.Pages.{named_in, covered_in, needed, Found, FoundDirty}
+use Rattle.transactions.specs.Parts.{Spool, item_of, waiting}
 use Rattle.transactions.specs.Rows.{first_fit}
 use Rattle.transactions.specs.State.{live, spooled}
 use Rattle.transactions.specs.Truncation.{names, in_log, in_items, is_dirty, is_due, chosen, dirty_pages, due_pages, crowded, truncating, truncation, PagesAnswer}
 use Rattle.transactions.proofs.Flagging.{chosen_same, chosen_has}
 
--- the flags choose the dirty pages and those that are due
-pub dirty_is : (s : State) (shows : ℕ → Shown) (ps : Pages) → Found s shows ps → chosen (flag ps.named) 0 64 ≡ dirty_pages s shows
-dirty_is s shows ps k = chosen_same (flag ps.named) (is_dirty s shows) 0 64 64 (omega arith) k.named
+-- what is noted chooses the dirty pages and those that are due
+pub dirty_is : (s : State) (shows : ℕ → Shown) (ps : List Page) → Found s shows ps → chosen (named_in ps) 0 64 ≡ dirty_pages s shows
+dirty_is s shows ps k = chosen_same (named_in ps) (is_dirty s shows) 0 64 64 (omega arith) k.named
 
-pub due_is : (s : State) (shows : ℕ → Shown) (ps : Pages) (due : List Bool) → Found s shows ps → Flags due (needed ps) → chosen (flag due) 0 64 ≡ due_pages s shows
-due_is s shows ps due k f =
-    chosen_same (flag due) (is_due s shows) 0 64 64 (omega arith)
+pub due_is : (s : State) (shows : ℕ → Shown) (ps : List Page) → Found s shows ps → chosen (needed ps) 0 64 ≡ due_pages s shows
+due_is s shows ps k =
+    chosen_same (needed ps) (is_due s shows) 0 64 64 (omega arith)
     (λ p small.
-    f p small
-    ∙ ap (λ (b : Bool). cond b (not (flag ps.covered p)) false) (k.named p small)
+    ap (λ (b : Bool). cond b (not (covered_in ps p)) false) (k.named p small)
     ∙ ap (λ (b : Bool). cond (is_dirty s shows p) (not b) false) (k.covered p small))
 
-pub plan_is : (s : State) (shows : ℕ → Shown) (ps : Pages) (due : List Bool) → Found s shows ps → Flags due (needed ps) → truncating s (chosen (flag due) 0 64) (chosen (flag ps.named) 0 64) ≡ truncation s shows
-plan_is s shows ps due k f =
-    ap (λ (xs : List ℕ). truncating s xs (chosen (flag ps.named) 0 64)) (due_is s shows ps due k f)
-    ∙ ap (λ (xs : List ℕ). truncating s (due_pages s shows) xs) (dirty_is s shows ps k)
+pub plan_is : (s : State) (shows : ℕ → Shown) (x : Dirty) → FoundDirty s shows x → truncating s x.due.items x.pages.items ≡ truncation s shows
+plan_is s shows x k =
+    ap (λ (xs : List ℕ). truncating s xs x.pages.items) k.due ∙ ap (λ (xs : List ℕ). truncating s (due_pages s shows) xs) k.pages
 
 -- a part that waits names a page
-first_waits : (s : Spool) → 1 ≤ s.count → (x : Spooled) × (rest : List Item) × (waiting s ≡ item_of x ∷ rest)
-first_waits s h = go s.items s.count h (omega (arith, s.sized))
+first_waits : (s : Spool) → 1 ≤ array_vec_len s → (x : Spooled) × (rest : List Item) × (waiting s ≡ item_of x ∷ rest)
+first_waits s h = go s.items h
   where
-    go : (xs : List Spooled) (k : ℕ) → 1 ≤ k → 1 ≤ length xs → (x : Spooled) × (rest : List Item) × (map item_of (take k xs) ≡ item_of x ∷ rest)
-    go [] k a b = absurd (omega arith)
-    go (x ∷ xs) zero a b = absurd (omega arith)
-    go (x ∷ xs) (suc k) a b = (x, map item_of (take k xs), refl)
+    go : (xs : List Spooled) → 1 ≤ length xs → (x : Spooled) × (rest : List Item) × (map item_of xs ≡ item_of x ∷ rest)
+    go [] a = absurd (omega arith)
+    go (x ∷ xs) a = (x, map item_of xs, refl)
 
 named_part : (x : Spooled) → names (recorded 0 0 (item_of x)) x.page ≡ true
 named_part x = let t = eq-eqb x.page x.page refl in rw t (kind x.last)
@@ -56,7 +54,7 @@ or_true : (a : Bool) → cond a true true ≡ true
 or_true true = refl
 or_true false = refl
 
-first_dirty : (s : State) (shows : ℕ → Shown) → 1 ≤ s.spool.count → (p : ℕ) × Among p (dirty_pages s shows)
+first_dirty : (s : State) (shows : ℕ → Shown) → 1 ≤ array_vec_len s.spool → (p : ℕ) × Among p (dirty_pages s shows)
 first_dirty s shows h =
     let w = first_waits s.spool h in
     let x = w.0 in
@@ -65,16 +63,16 @@ first_dirty s shows h =
     let live? = in_log names (log s.log.places shows) s.log.low (live s) x.page in
     (x.page, chosen_has (is_dirty s shows) 0 64 x.page (omega arith) (omega (arith, x.paged)) (ap (λ (b : Bool). cond live? true b) says ∙ or_true live?))
 
-pub nothing_waits : (s : State) (shows : ℕ → Shown) → dirty_pages s shows ≡ [] → s.spool.count ≡ 0
+pub nothing_waits : (s : State) (shows : ℕ → Shown) → dirty_pages s shows ≡ [] → array_vec_len s.spool ≡ 0
 nothing_waits s shows e =
     ⊎_elim
-    (λ (h : s.spool.count < 1). omega arith)
-    (λ (h : 1 ≤ s.spool.count). let w = first_dirty s shows h in absurd (subst (λ (ps : List ℕ). Among w.0 ps) e w.1))
-    (cases_lt s.spool.count 1)
+    (λ (h : length s.spool.items < 1). omega arith)
+    (λ (h : 1 ≤ length s.spool.items). let w = first_dirty s shows h in absurd (subst (λ (ps : List ℕ). Among w.0 ps) e w.1))
+    (cases_lt (length s.spool.items) 1)
 
-pub none_raised : (ps : List ℕ) → length ps ≡ 0 → ps ≡ []
-none_raised [] h = refl
-none_raised (p ∷ ps) h = absurd (omega arith)
+-- where the list of dirty pages is not empty, some page is dirty
+pub some_dirty : (s : State) (shows : ℕ → Shown) (x : Dirty) → FoundDirty s shows x → eqb (length x.pages.items) 0 ≡ false → dirty_pages s shows ≢ []
+some_dirty s shows x k h none = eqb-false (length x.pages.items) 0 h (ap length k.pages ∙ ap length none)
 
 -- power failed in the plan
 pub pages_cut : (s s' : State) (d e : Disk) (f : DeviceFault) → first_fit (crowded s (length (due_pages s d.shows)) ∷ []) ≡ None → dirty_pages s d.shows ≢ []

@@ -1,5 +1,6 @@
 -- What each call answers and leaves, on every way out.
 use Rattle.std.specs.Prelude.{◌≡◌, ℕ, ◌+◌, ◌≤◌, Bool, true, false, ◌≢◌, ◌⊎◌, List, [], ◌∷◌, ◌++◌, length, Some, None, Ok, Err, Result}
+use Rattle.arrayvec.specs.ArrayVec.{array_vec_len}
 use Rattle.device.specs.declared.fault.DeviceFault.TheVariants.{Power}
 use Rattle.device.specs.Disk.{Disk}
 use Rattle.device.specs.Trace.{Act, settled, Done, CutShort}
@@ -61,7 +62,7 @@ writing s items = appending s.log.places s.log.low s.log.last items ++ (settled 
 -- The store has written these records, and nothing waits.
 pub record Written (s : State) (items : List Item) (ordinal : ℕ) (s' : State) : Type 0 where
   pub log : StandsAt s'.log s.log.places s.log.low (s.log.last + length items) ordinal
-  pub empty : s'.spool.count ≡ 0
+  pub empty : array_vec_len s'.spool ≡ 0
   pub on : s'.on ≡ true
 
 -- The log stands where it stood, and the spool has grown by these.
@@ -81,12 +82,12 @@ pub record CutWriting (s : State) (d : Disk) (items : List Item) (f : StoreFault
 -- Flush writes the spool and answers how many records; an empty one writes nothing.
 abbrev pub Flushes : State → Disk → Result ℕ StoreFault → State → Disk → Type 0
 Flushes s d (Ok k) s' e =
-    (first_fit (off s ∷ []) ≡ None) × (k ≡ s.spool.count)
+    (first_fit (off s ∷ []) ≡ None) × (k ≡ array_vec_len s.spool)
     × (((k ≡ 0) × (s' ≡ s) × (e ≡ d))
     ⊎ ((1 ≤ k) × Done d (writing s (spooled s)) e × Written s (spooled s) s.log.ordinal s' × (s'.image ≡ s.image) × (s'.busy ≡ s.busy)))
 Flushes s d (Err f) s' e =
     ((first_fit (off s ∷ []) ≡ Some f) × (s' ≡ s) × (e ≡ d))
-    ⊎ ((first_fit (off s ∷ []) ≡ None) × (1 ≤ s.spool.count) × CutWriting s d (spooled s) f s' e)
+    ⊎ ((first_fit (off s ∷ []) ≡ None) × (1 ≤ array_vec_len s.spool) × CutWriting s d (spooled s) f s' e)
 
 -- A commit with nothing declared ends the transaction, and answers the last ordinal and 0.
 pub record CommitsNothing (s : State) (d : Disk) (x : ℕ × ℕ) (s' : State) (e : Disk) : Type 0 where

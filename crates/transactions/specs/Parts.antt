@@ -1,8 +1,8 @@
 -- The records that a transaction becomes.
 use Rattle.std.specs.Prelude.{ℕ, ◌/◌, ◌%◌, cond, List, [], ◌∷◌, map, take, drop}
+use Rattle.arrayvec.specs.ArrayVec.{ArrayVec}
 use Rattle.durability.specs.Items.{Item}
 use Rattle.image.specs.declared.run.Piece.{Piece}
-use Rattle.transactions.specs.declared.spool.Spool.{Spool}
 use Rattle.transactions.specs.declared.spool.Spooled.{Spooled}
 
 -- The part that holds a piece of this memory.
@@ -25,6 +25,9 @@ abbrev pub item_of : Spooled → Item
 item_of x =
     record { kind = cond x.last 2 1; ordinal = x.ordinal; page = x.page; offset = x.offset; bytes = take x.size x.bytes }
 
--- The spool as a list.
+-- The spool, and the records that it stands for.
+abbrev pub Spool : Type 0
+Spool = ArrayVec Spooled
+
 abbrev pub waiting : Spool → List Item
-waiting s = map item_of (take s.count s.items)
+waiting s = map item_of s.items

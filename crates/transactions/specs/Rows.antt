@@ -1,5 +1,6 @@
 -- The tests of each call, in their order: the first that fits answers.
 use Rattle.std.specs.Prelude.{ℕ, ◌+◌, ◌-◌, ◌^◌, Bool, false, cond, not, ◌&&◌, List, [], ◌∷◌, Some, None, Option, ◌==◌, nat_lt}
+use Rattle.arrayvec.specs.ArrayVec.{array_vec_len}
 use Rattle.device.specs.declared.fault.DeviceFault.TheVariants.{Power}
 use Rattle.transactions.specs.declared.fault.StoreFault.{StoreFault}
 use Rattle.transactions.specs.declared.fault.StoreFault.TheVariants.{Device, Busy, Stranger, Serials, Full, SpoolFull}
@@ -28,15 +29,15 @@ stranger s number = (not (s.busy && number == s.log.ordinal + 1), Stranger numbe
 
 -- For k records more there are too few serials: 65 stay in reserve, for a truncation.
 abbrev pub serials : State → ℕ → Row
-serials s k = (nat_lt (2 ^ 63 - 1) (s.log.last + s.spool.count + k + 65), Serials s.log.last)
+serials s k = (nat_lt (2 ^ 63 - 1) (s.log.last + array_vec_len s.spool + k + 65), Serials s.log.last)
 
 -- For k records more there is too little log: 65 places stay in reserve too.
 abbrev pub full : State → ℕ → Row
-full s k = (nat_lt (s.log.places - 65) (live s + s.spool.count + k), Full (live s + s.spool.count + k - (s.log.places - 65)))
+full s k = (nat_lt (s.log.places - 65) (live s + array_vec_len s.spool + k), Full (live s + array_vec_len s.spool + k - (s.log.places - 65)))
 
 -- For k records more there is too little spool, where they are not to be written.
 abbrev pub spool_full : State → ℕ → Bool → Row
-spool_full s k flush = (cond flush false (nat_lt 32 (s.spool.count + k)), SpoolFull (s.spool.count + k - 32))
+spool_full s k flush = (cond flush false (nat_lt 32 (array_vec_len s.spool + k)), SpoolFull (array_vec_len s.spool + k - 32))
 
 -- The rows of a call that is shown a token, of a commit of k records, and of a begin.
 abbrev pub token_rows : State → ℕ → List Row

@@ -1,5 +1,6 @@
 -- A store by its parts, and what format and opening make it.
 use Rattle.std.specs.Prelude.{◌≡◌, ℕ, ◌+◌, ◌-◌, Bool, true, false, List, [], replicate, Ok, Err, Result}
+use Rattle.arrayvec.specs.ArrayVec.{array_vec_len}
 use Rattle.device.specs.Disk.{Disk}
 use Rattle.device.specs.Meaning.{Restarted}
 use Rattle.device.specs.Trace.{Done}
@@ -13,10 +14,9 @@ use Rattle.recovery.specs.Clearing.{clearing}
 use Rattle.recovery.specs.Opening.{Divides, Opens, Formats}
 use Rattle.transactions.specs.declared.fault.StoreFault.{StoreFault}
 use Rattle.transactions.specs.declared.log.Log.{Log}
-use Rattle.transactions.specs.declared.spool.Spool.{Spool}
 use Rattle.transactions.specs.declared.state.State.{State}
 use Rattle.transactions.specs.Fault.{from_recovery}
-use Rattle.transactions.specs.Parts.{parts, waiting}
+use Rattle.transactions.specs.Parts.{Spool, parts, waiting}
 
 -- How many serials there are from low to the last one written.
 abbrev pub live : State → ℕ
@@ -56,7 +56,7 @@ pub record StandsAt (log : Log) (places low last ordinal : ℕ) : Type 0 where
 pub record Idle (s : State) : Type 0 where
   pub free : s.busy ≡ false
   pub clean : declared s.image ≡ []
-  pub empty : s.spool.count ≡ 0
+  pub empty : array_vec_len s.spool ≡ 0
   pub before : s.image.before ≡ s.image.memory
 
 -- A store on zeros, with the first mark of a log of n sectors.

@@ -1,5 +1,6 @@
 -- Truncation: which pages are dirty, its tests, its calls on the device, and what it answers and leaves.
 use Rattle.std.specs.Prelude.{◌≡◌, ℕ, zero, suc, ◌+◌, ◌-◌, ◌*◌, Bool, true, false, cond, not, ◌≢◌, ◌⊎◌, List, [], ◌∷◌, ◌++◌, map, length, take, drop, Some, None, Ok, Err, Result, ◌==◌, nat_le, nat_lt}
+use Rattle.arrayvec.specs.ArrayVec.{array_vec_len}
 use Rattle.device.specs.declared.fault.DeviceFault.TheVariants.{Power}
 use Rattle.device.specs.Disk.{Disk, Shown}
 use Rattle.device.specs.Meaning.{Failed}
@@ -56,7 +57,7 @@ due_pages s shows = chosen (is_due s shows) 0 64
 
 -- There is too little log for what waits, so many page records and a mark.
 abbrev pub crowded : State → ℕ → Row
-crowded s due = (nat_lt s.log.places (live s + s.spool.count + due + 1), Full (live s + s.spool.count + due + 1 - s.log.places))
+crowded s due = (nat_lt s.log.places (live s + array_vec_len s.spool + due + 1), Full (live s + array_vec_len s.spool + due + 1 - s.log.places))
 
 abbrev pub truncate_rows : State → ℕ → List Row
 truncate_rows s due = off s ∷ busy s ∷ serials s 0 ∷ crowded s due ∷ []
@@ -67,12 +68,12 @@ page_item ordinal memory p = record { kind = 3; ordinal = ordinal; page = p; off
 
 -- What waits is written and settled; where nothing waits, nothing is done.
 abbrev pub flushing : State → List Act
-flushing s = cond (s.spool.count == 0) [] (writing s (spooled s))
+flushing s = cond (array_vec_len s.spool == 0) [] (writing s (spooled s))
 
 -- Page records of these pages are written after all that waited, and settled.
 abbrev pub covering : State → List ℕ → List Act
 covering s ps =
-    appending s.log.places s.log.low (s.log.last + s.spool.count) (map (page_item s.log.ordinal s.image.memory) ps) ++ (settled ∷ [])
+    appending s.log.places s.log.low (s.log.last + array_vec_len s.spool) (map (page_item s.log.ordinal s.image.memory) ps) ++ (settled ∷ [])
 
 -- The dirty pages are written home and settled.
 abbrev pub going_home : State → List ℕ → List Act
@@ -80,7 +81,7 @@ going_home s ps = homing s.log.places s.image.memory ps ++ (settled ∷ [])
 
 -- The serial of the last page record, if there are so many.
 abbrev pub covered_to : State → ℕ → ℕ
-covered_to s due = s.log.last + s.spool.count + due
+covered_to s due = s.log.last + array_vec_len s.spool + due
 
 -- All that a truncation of dirty pages does: flush, page records, homes, mark, each settled before the next.
 abbrev pub truncating : State → List ℕ → List ℕ → List Act
@@ -93,7 +94,7 @@ truncation s shows = truncating s (due_pages s shows) (dirty_pages s shows)
 -- No page is dirty: then nothing waits either, and nothing is done.
 pub record TruncatesNothing (s : State) (d : Disk) (k : ℕ) (s' : State) (e : Disk) : Type 0 where
   pub clean : dirty_pages s d.shows ≡ []
-  pub empty : s.spool.count ≡ 0
+  pub empty : array_vec_len s.spool ≡ 0
   pub answer : k ≡ 0
   pub state : s' ≡ s
   pub device : e ≡ d
@@ -101,7 +102,7 @@ pub record TruncatesNothing (s : State) (d : Disk) (k : ℕ) (s' : State) (e : D
 -- Once so many page records and the mark are written: the log begins at the mark and ends there, and nothing waits.
 pub record Truncated (s : State) (due : ℕ) (s' : State) : Type 0 where
   pub log : StandsAt s'.log s.log.places (covered_to s due + 1) (covered_to s due + 1) s.log.ordinal
-  pub empty : s'.spool.count ≡ 0
+  pub empty : array_vec_len s'.spool ≡ 0
   pub image : s'.image ≡ s.image
   pub busy : s'.busy ≡ s.busy
   pub on : s'.on ≡ true

@@ -1,9 +1,9 @@
 // The calls that write, over the device and the state.
-ghost use Rattle.std.specs.Prelude.{◌≡◌, ◌+◌, ◌≤◌, true, ◌≢◌, [], ◌++◌, None};
-ghost use Rattle.device.specs.Disk.{Disk};
+ghost use Rattle.std.specs.Prelude.{◌≡◌, ◌+◌, true, ◌≢◌, [], ◌++◌, None};
+ghost use Rattle.arrayvec.specs.ArrayVec.{array_vec_len};
 ghost use Rattle.device.specs.Trace.{Tries};
 ghost use Rattle.image.specs.Calls.{declared};
-ghost use Rattle.transactions.specs.Calls.{Flushes, Commits, CommitsParts, CommitCut, writing};
+ghost use Rattle.transactions.specs.Calls.{Flushes, Commits, writing};
 ghost use Rattle.transactions.specs.Rows.{first_fit, commit_rows};
 ghost use Rattle.transactions.specs.State.{OnLog, LiesOn, spooled, own};
 ghost use Rattle.transactions.specs.Steps.{PiecesOf, PartsAnswer, PiecesAnswer};
@@ -16,7 +16,8 @@ use image::Pieces;
 
 // Writes all that waits, and settles it.
 pub(crate) fn flush_out<D: Device>(device: &mut D, state: &State) -> Result<(), DeviceFault>
-    ensures { OnLog state.now (D.Device.disk device.old) → Tries (D.Device.disk device.old) (writing state.now (spooled state.now)) result (D.Device.disk device.new) }
+    requires { OnLog state.now (D.Device.disk device.old) }
+    ensures { Tries (D.Device.disk device.old) (writing state.now (spooled state.now)) result (D.Device.disk device.new) }
 {
     write_spool(device, &state.log, &state.spool)?;
     device.barrier()
@@ -25,21 +26,23 @@ pub(crate) fn flush_out<D: Device>(device: &mut D, state: &State) -> Result<(), 
 // Writes all that waits and then the pieces of the transaction, and settles them.
 fn commit_out<D: Device>(device: &mut D, state: &State, pieces: &Pieces) -> Result<(), DeviceFault>
     requires pieces { PiecesOf state.now pieces.now }
-    requires passes { first_fit (commit_rows state.now pieces.now.count true) ≡ None }
-    ensures { OnLog state.now (D.Device.disk device.old) → Tries (D.Device.disk device.old) (writing state.now (spooled state.now ++ own state.now)) result (D.Device.disk device.new) }
+    requires passes { first_fit (commit_rows state.now (array_vec_len pieces.now) true) ≡ None }
+    requires lies { OnLog state.now (D.Device.disk device.old) }
+    ensures { Tries (D.Device.disk device.old) (writing state.now (spooled state.now ++ own state.now)) result (D.Device.disk device.new) }
 {
     write_spool(device, &state.log, &state.spool)?;
-    let last = state.log.last + state.spool.count as u64;
+    let last = state.written_to();
     write_pieces(device, &state.log, last, &state.image.memory, pieces)?;
     device.barrier()
 }
 
 // Writes the spool; an empty one writes nothing.
 pub(crate) fn flush_store<D: Device>(device: &mut D, state: &mut State) -> Result<usize, StoreFault>
-    ensures { LiesOn state.old (D.Device.disk device.old) → Flushes state.old (D.Device.disk device.old) result state.new (D.Device.disk device.new) }
+    requires { LiesOn state.old (D.Device.disk device.old) }
+    ensures { Flushes state.old (D.Device.disk device.old) result state.new (D.Device.disk device.new) }
 {
     state.awake()?;
-    if state.spool.count == 0 {
+    if state.spool.is_empty() {
         return Ok(0);
     }
     state.on = false;
@@ -54,9 +57,10 @@ fn commit_flushed<D: Device>(
     pieces: &Pieces,
 ) -> Result<(u64, usize), StoreFault>
     requires pieces { PiecesOf state.old pieces.now }
-    requires passes { first_fit (commit_rows state.old pieces.now.count true) ≡ None }
+    requires passes { first_fit (commit_rows state.old (array_vec_len pieces.now) true) ≡ None }
     requires some { declared state.old.image ≢ [] }
-    ensures { OnLog state.old (D.Device.disk device.old) → PartsAnswer state.old (D.Device.disk device.old) true result state.new (D.Device.disk device.new) }
+    requires lies { OnLog state.old (D.Device.disk device.old) }
+    ensures { PartsAnswer state.old (D.Device.disk device.old) true result state.new (D.Device.disk device.new) }
 {
     state.on = false;
     commit_out(device, state, pieces)?;
@@ -73,9 +77,10 @@ fn commit_pieces<D: Device>(
     requires pieces { PiecesOf state.old pieces.now }
     requires some { declared state.old.image ≢ [] }
     requires on { state.old.on ≡ true }
-    ensures { OnLog state.old (D.Device.disk device.old) → PiecesAnswer state.old (D.Device.disk device.old) flush result state.new (D.Device.disk device.new) }
+    requires lies { OnLog state.old (D.Device.disk device.old) }
+    ensures { PiecesAnswer state.old (D.Device.disk device.old) flush result state.new (D.Device.disk device.new) }
 {
-    if let Err(fault) = state.may_commit(pieces.count, flush) {
+    if let Err(fault) = state.may_commit(pieces, flush) {
         state.undo();
         return Err(fault);
     }
@@ -93,7 +98,8 @@ pub(crate) fn commit_store<D: Device>(
     number: u64,
     flush: bool,
 ) -> Result<(u64, usize), StoreFault>
-    ensures { LiesOn state.old (D.Device.disk device.old) → Commits state.old (D.Device.disk device.old) number flush result state.new (D.Device.disk device.new) }
+    requires { LiesOn state.old (D.Device.disk device.old) }
+    ensures { Commits state.old (D.Device.disk device.old) number flush result state.new (D.Device.disk device.new) }
 {
     state.shown(number)?;
     if state.image.is_clean() {

@@ -1,11 +1,13 @@
 // The changes of a store's state, apart from the device.
-ghost use Rattle.std.specs.Prelude.{◌≡◌, ◌+◌, ◌^◌, ◌<◌, ◌≤◌, true, false, ◌++◌, length, take};
+ghost use Rattle.std.specs.Prelude.{◌≡◌, ◌+◌, ◌^◌, ◌<◌, ◌≤◌, true, ◌++◌, length};
+ghost use Rattle.arrayvec.specs.ArrayVec.{array_vec_len};
 ghost use Rattle.image.specs.Cut.{AllPieces};
 ghost use Rattle.transactions.specs.Calls.{Undone, Written, SpooledUp};
 ghost use Rattle.transactions.specs.State.{spooled, own};
 ghost use Rattle.transactions.specs.Steps.{Over, PiecesOf};
 ghost use Rattle.transactions.specs.Truncation.{Truncated};
 
+use crate::spooling::take_in;
 use crate::state::State;
 use image::Pieces;
 
@@ -20,13 +22,13 @@ impl State {
 
     // All that waited is written, and the store is on again.
     pub(crate) fn flushed(&mut self) -> usize
-        ensures count { result ≡ self.old.spool.count }
+        ensures count { result ≡ array_vec_len self.old.spool }
         ensures written { Written self.old (spooled self.old) self.old.log.ordinal self.new }
         ensures same { (self.new.image ≡ self.old.image) × (self.new.busy ≡ self.old.busy) }
     {
-        let count = self.spool.count;
-        self.log.last += count as u64;
-        self.spool.count = 0;
+        let count = self.spool.len();
+        self.log.last = self.written_to();
+        self.spool.clear();
         self.on = true;
         count
     }
@@ -34,50 +36,51 @@ impl State {
     // All that waited, so many page records and a mark are written: the log begins at the mark.
     pub(crate) fn truncated(&mut self, due: usize)
         requires few { due ≤ 64 }
-        requires bounded { self.old.log.last + self.old.spool.count + 65 < 2 ^ 63 }
+        requires bounded { self.old.log.last + array_vec_len self.old.spool + 65 < 2 ^ 63 }
         ensures { Truncated self.old due self.new }
     {
-        self.log.last += (self.spool.count + due + 1) as u64;
+        self.log.last = self.written_to() + due as u64 + 1;
         self.log.low = self.log.last;
-        self.spool.count = 0;
+        self.spool.clear();
         self.on = true;
     }
 
     // All that waited and the transaction's records are written: it is over, and its bytes stay.
     pub(crate) fn committed(&mut self, pieces: &Pieces) -> (u64, usize)
-        requires bounded { self.old.log.last + self.old.spool.count + pieces.now.count < 2 ^ 63 }
-        requires some { 1 ≤ pieces.now.count }
+        requires bounded { self.old.log.last + array_vec_len self.old.spool + array_vec_len pieces.now < 2 ^ 63 }
+        requires some { 1 ≤ array_vec_len pieces.now }
         requires pieces { PiecesOf self.old pieces.now }
         ensures answer { result ≡ (self.old.log.ordinal + 1, length (own self.old)) }
         ensures written { Written self.old (spooled self.old ++ own self.old) (self.old.log.ordinal + 1) self.new }
         ensures over { Over self.old self.new }
     {
-        self.log.last += (self.spool.count + pieces.count) as u64;
-        self.spool.count = 0;
+        let records = pieces.len();
+        self.log.last = self.written_to() + records as u64;
+        self.spool.clear();
         self.log.ordinal += 1;
         self.image.keep();
         self.busy = false;
         self.on = true;
-        (self.log.ordinal, pieces.count)
+        (self.log.ordinal, records)
     }
 
     // The transaction's records wait: it is over, and its bytes stay.
     pub(crate) fn spooled_up(&mut self, pieces: &Pieces) -> (u64, usize)
-        requires room { self.old.spool.count + pieces.now.count ≤ 32 }
-        requires bounded { self.old.log.last + self.old.spool.count + pieces.now.count < 2 ^ 63 }
-        requires some { 1 ≤ pieces.now.count }
+        requires room { array_vec_len self.old.spool + array_vec_len pieces.now ≤ 32 }
+        requires bounded { self.old.log.last + array_vec_len self.old.spool + array_vec_len pieces.now < 2 ^ 63 }
+        requires some { 1 ≤ array_vec_len pieces.now }
         requires pieces { PiecesOf self.old pieces.now }
-        requires fit { AllPieces (take pieces.now.count pieces.now.items) }
+        requires fit { AllPieces pieces.now.items }
         requires on { self.old.on ≡ true }
         ensures answer { result ≡ (self.old.log.ordinal + 1, length (own self.old)) }
         ensures spooled { SpooledUp self.old (own self.old) (self.old.log.ordinal + 1) self.new }
         ensures over { Over self.old self.new }
     {
         let ordinal = self.log.ordinal + 1;
-        self.spool.take_in(ordinal, &self.image.memory, pieces);
+        take_in(&mut self.spool, ordinal, &self.image.memory, pieces);
         self.log.ordinal = ordinal;
         self.image.keep();
         self.busy = false;
-        (ordinal, pieces.count)
+        (ordinal, pieces.len())
     }
 }

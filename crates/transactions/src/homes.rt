@@ -1,17 +1,15 @@
 // Writing pages: their records into the log, and the pages themselves home.
-ghost use Rattle.std.specs.Prelude.{◌≡◌, ◌+◌, ◌%◌, ◌^◌, ◌<◌, ◌≤◌, [], ◌∷◌, map};
+ghost use Rattle.std.specs.Prelude.{◌≡◌, ◌+◌, ◌%◌, ◌^◌, ◌<◌, ◌≤◌, [], ◌∷◌, map, length, slice_index, EachIndex};
 ghost use Rattle.device.specs.Trace.{Tries, wrote};
 ghost use Rattle.durability.specs.Items.{appending, recorded};
 ghost use Rattle.durability.specs.Promises.{home_of, homing};
 ghost use Rattle.record.specs.Entry.{laid_out};
-ghost use Rattle.transactions.specs.Pages.{flag};
-ghost use Rattle.transactions.specs.Truncation.{chosen, page_item};
+ghost use Rattle.transactions.specs.Truncation.{page_item};
 
 use crate::log::Log;
-use crate::pages::PAGES;
 use device::{Device, DeviceFault};
 use image::{MEMORY, PAGE};
-use record::{Head, Record};
+use record::Record;
 use recovery::write_record;
 
 // Writes the page record of a page, with this serial.
@@ -22,40 +20,34 @@ fn write_page<D: Device>(
     memory: &[u8; MEMORY],
     page: usize,
 ) -> Result<(), DeviceFault>
-    requires { page < 64 }
-    ensures { log.now.places ≤ (D.Device.disk device.old).plate.sectors → Tries (D.Device.disk device.old) (wrote (serial % log.now.places) (laid_out (recorded log.now.low serial (page_item log.now.ordinal memory.now page))) ∷ []) result (D.Device.disk device.new) }
+    requires page { page < 64 }
+    requires room { log.now.places ≤ (D.Device.disk device.old).plate.sectors }
+    ensures { Tries (D.Device.disk device.old) (wrote (serial % log.now.places) (laid_out (recorded log.now.low serial (page_item log.now.ordinal memory.now page))) ∷ []) result (D.Device.disk device.new) }
 {
     let start = page * PAGE;
-    let head = Head {
-        serial,
-        low: log.low,
-        ordinal: log.ordinal,
-    };
     let record = Record::Page {
-        head,
+        head: log.head(serial, log.ordinal),
         page: page as u16,
         bytes: &memory[start..start + PAGE],
     };
     write_record(device, log.places, &record)
 }
 
-// Writes page records of the pages whose flags are raised, each with the next serial after `last`.
+// Writes page records of these pages, each with the next serial after `last`.
 pub(crate) fn write_pages<D: Device>(
     device: &mut D,
     log: &Log,
     last: u64,
     memory: &[u8; MEMORY],
-    flags: &[bool; PAGES],
+    pages: &[usize],
 ) -> Result<(), DeviceFault>
-    requires { last + 65 < 2 ^ 63 }
-    ensures { log.now.places ≤ (D.Device.disk device.old).plate.sectors → Tries (D.Device.disk device.old) (appending log.now.places log.now.low last (map (page_item log.now.ordinal memory.now) (chosen (flag flags.now) 0 64))) result (D.Device.disk device.new) }
+    requires bounded { last + length pages.now < 2 ^ 63 }
+    requires inside { EachIndex pages.now (λ i. slice_index pages.now i < 64) }
+    requires room { log.now.places ≤ (D.Device.disk device.old).plate.sectors }
+    ensures { Tries (D.Device.disk device.old) (appending log.now.places log.now.low last (map (page_item log.now.ordinal memory.now) pages.now)) result (D.Device.disk device.new) }
 {
-    let mut serial = last;
-    for page in 0..PAGES {
-        if flags[page] {
-            serial += 1;
-            write_page(device, log, serial, memory, page)?;
-        }
+    for (i, page) in pages.iter().enumerate() {
+        write_page(device, log, last + 1 + i as u64, memory, *page)?;
     }
     Ok(())
 }
@@ -80,25 +72,26 @@ fn write_home<D: Device>(
 ) -> Result<(), DeviceFault>
     requires page { page < 64 }
     requires few { places ≤ 1024 }
-    ensures { places + 64 ≤ (D.Device.disk device.old).plate.sectors → Tries (D.Device.disk device.old) (wrote (places + page) (home_of memory.now page) ∷ []) result (D.Device.disk device.new) }
+    requires room { places + 64 ≤ (D.Device.disk device.old).plate.sectors }
+    ensures { Tries (D.Device.disk device.old) (wrote (places + page) (home_of memory.now page) ∷ []) result (D.Device.disk device.new) }
 {
     device.write(places + page, &home_of(memory, page))
 }
 
-// Writes the pages whose flags are raised home, the lowest first.
+// Writes these pages home.
 pub(crate) fn write_homes<D: Device>(
     device: &mut D,
     places: usize,
     memory: &[u8; MEMORY],
-    flags: &[bool; PAGES],
+    pages: &[usize],
 ) -> Result<(), DeviceFault>
-    requires { places ≤ 1024 }
-    ensures { places + 64 ≤ (D.Device.disk device.old).plate.sectors → Tries (D.Device.disk device.old) (homing places memory.now (chosen (flag flags.now) 0 64)) result (D.Device.disk device.new) }
+    requires few { places ≤ 1024 }
+    requires inside { EachIndex pages.now (λ i. slice_index pages.now i < 64) }
+    requires room { places + 64 ≤ (D.Device.disk device.old).plate.sectors }
+    ensures { Tries (D.Device.disk device.old) (homing places memory.now pages.now) result (D.Device.disk device.new) }
 {
-    for page in 0..PAGES {
-        if flags[page] {
-            write_home(device, places, memory, page)?;
-        }
+    for page in pages {
+        write_home(device, places, memory, *page)?;
     }
     Ok(())
 }

@@ -1,6 +1,8 @@
 // Where the log of a store stands.
 ghost use Rattle.std.specs.Prelude.{◌≤◌};
 
+use record::Head;
+
 #[derive(Clone, Copy)]
 pub struct Log {
     // How many sectors the log has.
@@ -13,4 +15,19 @@ pub struct Log {
     pub ordinal: u64,
     ghost least: { 160 ≤ places },
     ghost most: { places ≤ 1024 },
+}
+
+impl Log {
+    ghost use Rattle.std.specs.Prelude.{◌≡◌};
+
+    // The head of a record with this serial, of the transaction with this number.
+    pub(crate) fn head(&self, serial: u64, ordinal: u64) -> Head
+        ensures { result ≡ record { serial = serial; low = self.now.low; ordinal = ordinal } }
+    {
+        Head {
+            serial,
+            low: self.low,
+            ordinal,
+        }
+    }
 }

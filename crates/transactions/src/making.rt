@@ -1,5 +1,5 @@
 // A store's state as a format or an opening makes it.
-ghost use Rattle.std.specs.Prelude.{◌≡◌, ◌≤◌, false, replicate};
+ghost use Rattle.std.specs.Prelude.{◌≡◌, false, replicate};
 ghost use Rattle.transactions.specs.State.{Formatted, Opened, Idle};
 
 use crate::fault::StoreFault;
@@ -18,7 +18,7 @@ pub(crate) fn off() -> State
 {
     State {
         image: Image::zeros(),
-        spool: Spool::empty(),
+        spool: Spool::new(),
         log: Log {
             places: 160,
             low: 0,

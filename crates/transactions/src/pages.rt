@@ -1,55 +1,60 @@
 // Which pages records name, and which they cover whole.
-ghost use Rattle.std.specs.Prelude.{◌≡◌, ◌<◌, ◌≤◌, true, false, not, length, if◌then◌else◌};
-ghost use Rattle.transactions.specs.Pages.{Raised, Flags, flag, needed};
-ghost use Rattle.transactions.specs.Truncation.{chosen};
+ghost use Rattle.std.specs.Prelude.{◌≡◌, ◌<◌, slice_index, EachIndex};
+
+use arrayvec::ArrayVec;
 
 // How many pages the memory has.
 pub(crate) const PAGES: usize = 64;
 
-// A flag for each page: a record names it, a record covers it.
-#[derive(Clone, Copy)]
-pub(crate) struct Pages {
-    pub named: [bool; PAGES],
-    pub covered: [bool; PAGES],
+// What records say of a page: one names it, one covers it.
+#[derive(Clone, Copy, PartialEq, Eq, Debug, Default)]
+pub(crate) struct Page {
+    pub named: bool,
+    pub covered: bool,
 }
 
-// Raises the flag of a page, where it is to be raised and there is such a page.
-pub(crate) fn raise(flags: &mut [bool; PAGES], page: usize, lift: bool)
-    ensures { Raised page lift flags.old flags.new }
-{
-    if lift && page < PAGES {
-        flags[page] = true;
-    }
+// The named pages by their numbers, and those of them that are not covered, the lowest first.
+#[derive(Drop)]
+pub(crate) struct Dirty {
+    pub pages: ArrayVec<usize, PAGES>,
+    pub due: ArrayVec<usize, PAGES>,
+    ghost pages_inside: { EachIndex pages.items (λ i. slice_index pages.items i < 64) },
+    ghost due_inside: { EachIndex due.items (λ i. slice_index due.items i < 64) },
 }
 
-// Whether a page wants a record that covers it.
-fn lacks(named: bool, covered: bool) -> bool
-    ensures { result ≡ (if named then not covered else false) }
-{
-    named && !covered
-}
+impl Page {
+    ghost use Rattle.std.specs.Prelude.{true, if◌then◌else◌};
 
-// The named pages that are not covered.
-pub(crate) fn due_of(pages: &Pages) -> [bool; PAGES]
-    ensures { Flags result (needed pages.now) }
-{
-    let mut due = [false; PAGES];
-    for page in 0..PAGES {
-        due[page] = lacks(pages.named[page], pages.covered[page]);
-    }
-    due
-}
-
-// How many flags are raised.
-pub(crate) fn count(flags: &[bool; PAGES]) -> usize
-    ensures number { result ≡ length (chosen (flag flags.now) 0 64) }
-    ensures few { result ≤ 64 }
-{
-    let mut raised = 0;
-    for page in 0..PAGES {
-        if flags[page] {
-            raised += 1;
+    // What is said of the page once this is said too.
+    pub(crate) fn and(&self, said: Page) -> Page
+        ensures { result ≡ record { named = if self.now.named then true else said.named; covered = if self.now.covered then true else said.covered } }
+    {
+        Page {
+            named: self.named || said.named,
+            covered: self.covered || said.covered,
         }
     }
-    raised
+}
+
+impl Dirty {
+    ghost use Rattle.transactions.specs.Pages.{named_in, needed};
+    ghost use Rattle.transactions.specs.Truncation.{chosen};
+
+    // The pages of which so much is said.
+    pub(crate) fn of(pages: &[Page; PAGES]) -> Dirty
+        ensures pages { result.pages.items ≡ chosen (named_in pages.now) 0 64 }
+        ensures due { result.due.items ≡ chosen (needed pages.now) 0 64 }
+    {
+        let mut dirty = ArrayVec::new();
+        let mut due = ArrayVec::new();
+        for (page, said) in pages.iter().enumerate() {
+            if said.named {
+                dirty.push(page);
+                if !said.covered {
+                    due.push(page);
+                }
+            }
+        }
+        Dirty { pages: dirty, due }
+    }
 }

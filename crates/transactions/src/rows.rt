@@ -1,5 +1,6 @@
 // The tests that come before a call does anything, in their order.
 ghost use Rattle.std.specs.Prelude.{◌≤◌, [], ◌∷◌};
+ghost use Rattle.arrayvec.specs.ArrayVec.{array_vec_len};
 ghost use Rattle.transactions.specs.Rows.{first_fit, off as off-row, serials as serials-row, token_rows, commit_rows, begin_rows};
 ghost use Rattle.transactions.specs.Steps.{Passes};
 ghost use Rattle.transactions.specs.Truncation.{crowded};
@@ -8,6 +9,7 @@ use crate::fault::StoreFault;
 use crate::spool::SPOOL;
 use crate::state::State;
 use device::DeviceFault;
+use image::Pieces;
 
 // The greatest serial.
 const MOST: u64 = 0x7fff_ffff_ffff_ffff;
@@ -52,7 +54,7 @@ impl State {
     pub(crate) fn has_serials(&self) -> Result<(), StoreFault>
         ensures { Passes (first_fit (serials-row self.now 0 ∷ [])) result }
     {
-        if self.log.last + self.spool.count as u64 + RESERVE as u64 > MOST {
+        if self.written_to() + RESERVE as u64 > MOST {
             return Err(StoreFault::Serials(self.log.last));
         }
         Ok(())
@@ -63,8 +65,7 @@ impl State {
         requires { due ≤ 64 }
         ensures { Passes (first_fit (crowded self.now due ∷ [])) result }
     {
-        let live = (self.log.last + 1).saturating_sub(self.log.low);
-        let needed = live + (self.spool.count + due + 1) as u64;
+        let needed = self.live() + (self.spool.len() + due + 1) as u64;
         let room = self.log.places as u64;
         if needed > room {
             return Err(StoreFault::Full(needed - room));
@@ -72,16 +73,15 @@ impl State {
         Ok(())
     }
 
-    // There are serials, log and, where it is not written, spool for so many records more.
-    pub(crate) fn may_commit(&self, records: usize, flush: bool) -> Result<(), StoreFault>
-        requires { records ≤ 79 }
-        ensures { Passes (first_fit (commit_rows self.now records flush)) result }
+    // There are serials, log and, where they are not written, spool for a record of each of these pieces.
+    pub(crate) fn may_commit(&self, pieces: &Pieces, flush: bool) -> Result<(), StoreFault>
+        ensures { Passes (first_fit (commit_rows self.now (array_vec_len pieces.now) flush)) result }
     {
-        let waiting = self.spool.count + records;
+        let waiting = self.spool.len() + pieces.len();
         if self.log.last + waiting as u64 + RESERVE as u64 > MOST {
             return Err(StoreFault::Serials(self.log.last));
         }
-        let needed = (self.log.last + 1).saturating_sub(self.log.low) + waiting as u64;
+        let needed = self.live() + waiting as u64;
         let room = (self.log.places - RESERVE) as u64;
         if needed > room {
             return Err(StoreFault::Full(needed - room));

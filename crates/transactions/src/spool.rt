@@ -1,5 +1,7 @@
 // Records that wait to be written.
-ghost use Rattle.std.specs.Prelude.{◌≡◌, ◌+◌, ◌<◌, ◌≤◌, length};
+ghost use Rattle.std.specs.Prelude.{◌+◌, ◌<◌, ◌≤◌};
+
+use arrayvec::ArrayVec;
 
 // A part of a transaction, with its bytes as they were at commit. It gets its serial and low when it is written.
 #[derive(Clone, Copy)]
@@ -15,13 +17,22 @@ pub struct Spooled {
     ghost within: { offset + size ≤ 96 },
 }
 
+// What stands where no part was put yet.
+impl Default for Spooled {
+    fn default() -> Self {
+        Spooled {
+            ordinal: 0,
+            page: 0,
+            offset: 0,
+            size: 1,
+            last: false,
+            bytes: [0; 96],
+        }
+    }
+}
+
 // How many parts the spool holds.
 pub const SPOOL: usize = 32;
 
-#[derive(Drop)]
-pub struct Spool {
-    pub items: [Spooled; SPOOL],
-    pub count: usize,
-    ghost sized: { length items ≡ 32 },
-    ghost few: { count ≤ 32 },
-}
+// The parts that wait, the oldest first.
+pub type Spool = ArrayVec<Spooled, SPOOL>;

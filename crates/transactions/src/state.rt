@@ -1,5 +1,6 @@
 // What a store keeps in memory, apart from the device.
 ghost use Rattle.std.specs.Prelude.{◌+◌, ◌^◌, ◌<◌, ◌≤◌};
+ghost use Rattle.arrayvec.specs.ArrayVec.{array_vec_len};
 
 use crate::log::Log;
 use crate::spool::Spool;
@@ -16,7 +17,26 @@ pub struct State {
     // A store is off after failing power, and after a format or an opening that was refused.
     pub on: bool,
     // There are serials for all that waits.
-    ghost bounded: { log.last + spool.count < 2 ^ 63 },
+    ghost bounded: { log.last + array_vec_len spool < 2 ^ 63 },
     // Each transaction has records, written or spooled.
-    ghost numbered: { log.ordinal ≤ log.last + spool.count },
+    ghost numbered: { log.ordinal ≤ log.last + array_vec_len spool },
+}
+
+impl State {
+    ghost use Rattle.std.specs.Prelude.{◌≡◌};
+    ghost use Rattle.transactions.specs.State.{live};
+
+    // The last serial once all that waits is written.
+    pub(crate) fn written_to(&self) -> u64
+        ensures { result ≡ self.now.log.last + array_vec_len self.now.spool }
+    {
+        self.log.last + self.spool.len() as u64
+    }
+
+    // How many serials there are from low to the last one written.
+    pub(crate) fn live(&self) -> u64
+        ensures { result ≡ live self.now }
+    {
+        (self.log.last + 1).saturating_sub(self.log.low)
+    }
 }

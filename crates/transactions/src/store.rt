@@ -1,8 +1,5 @@
 // A store over a device, and its calls.
-ghost use Rattle.std.specs.Prelude.{◌≡◌, ◌≤◌, false, []};
-ghost use Rattle.device.specs.Disk.{Disk};
-ghost use Rattle.image.specs.Calls.{declared};
-ghost use Rattle.recovery.specs.Opening.{Opens};
+ghost use Rattle.std.specs.Prelude.{◌≡◌};
 ghost use Rattle.transactions.specs.Calls.{Begins, SetsRange, WritesRange, ReadsRange, Aborts, Flushes, Commits};
 ghost use Rattle.transactions.specs.State.{Formatted, Opened, LiesOn};
 ghost use Rattle.transactions.specs.Truncation.{Truncates};
@@ -15,11 +12,13 @@ use crate::token::Token;
 use crate::truncation::truncate_store;
 use device::Device;
 
-// A store owns its device until it is closed.
+// A store owns its device until it is closed. Its log, with the homes after it, lies on the device while the
+// store is on.
 #[derive(Drop)]
-pub struct Store<D> {
+pub struct Store<D: Device> {
     device: D,
     state: State,
+    pub ghost lies: { LiesOn state (D.Device.disk device) },
 }
 
 impl<D: Device> Store<D> {
@@ -95,7 +94,7 @@ impl<D: Device> Store<D> {
     // Ends the transaction: its records are written and settled, or wait in the spool. Answers its ordinal
     // and how many records it became. The token is spent on every way out.
     pub fn commit(&mut self, token: Token, flush: bool) -> Result<(u64, usize), StoreFault>
-        ensures { LiesOn self.old.state (D.Device.disk self.old.device) → Commits self.old.state (D.Device.disk self.old.device) token.number flush result self.new.state (D.Device.disk self.new.device) }
+        ensures { Commits self.old.state (D.Device.disk self.old.device) token.number flush result self.new.state (D.Device.disk self.new.device) }
     {
         commit_store(&mut self.device, &mut self.state, token.spend(), flush)
     }
@@ -112,7 +111,7 @@ impl<D: Device> Store<D> {
 
     // Writes and settles what waits, and answers how many records that were.
     pub fn flush(&mut self) -> Result<usize, StoreFault>
-        ensures { LiesOn self.old.state (D.Device.disk self.old.device) → Flushes self.old.state (D.Device.disk self.old.device) result self.new.state (D.Device.disk self.new.device) }
+        ensures { Flushes self.old.state (D.Device.disk self.old.device) result self.new.state (D.Device.disk self.new.device) }
     {
         flush_store(&mut self.device, &mut self.state)
     }
@@ -120,7 +119,7 @@ impl<D: Device> Store<D> {
     // Writes dirty pages home and begins the log anew at a mark. Answers how many pages were dirty. It stays
     // inside this crate until the law of runs speaks of it too.
     pub(crate) fn truncate(&mut self) -> Result<usize, StoreFault>
-        ensures { LiesOn self.old.state (D.Device.disk self.old.device) → Truncates self.old.state (D.Device.disk self.old.device) result self.new.state (D.Device.disk self.new.device) }
+        ensures { Truncates self.old.state (D.Device.disk self.old.device) result self.new.state (D.Device.disk self.new.device) }
     {
         truncate_store(&mut self.device, &mut self.state)
     }

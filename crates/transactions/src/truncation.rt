@@ -1,60 +1,68 @@
 // Truncation: dirty pages go home, and the log begins anew.
-ghost use Rattle.std.specs.Prelude.{◌+◌, ◌^◌, ◌<◌, ◌≤◌};
+ghost use Rattle.std.specs.Prelude.{◌+◌, ◌^◌, ◌<◌, ◌≤◌, length, slice_index, EachIndex};
+ghost use Rattle.arrayvec.specs.ArrayVec.{array_vec_len};
 ghost use Rattle.device.specs.Trace.{Tries};
 ghost use Rattle.durability.specs.Promises.{marking};
-ghost use Rattle.transactions.specs.Pages.{flag, Found};
+ghost use Rattle.transactions.specs.Pages.{FoundDirty};
 ghost use Rattle.transactions.specs.State.{OnLog, LiesOn};
-ghost use Rattle.transactions.specs.Truncation.{chosen, flushing, covering, going_home, covered_to, truncating, PagesAnswer, Truncates};
+ghost use Rattle.transactions.specs.Truncation.{flushing, covering, going_home, covered_to, truncating, PagesAnswer, Truncates};
 
 use crate::calls::flush_out;
 use crate::fault::StoreFault;
 use crate::homes::{write_homes, write_pages};
-use crate::pages::{PAGES, Pages, count, due_of};
+use crate::pages::Dirty;
 use crate::state::State;
-use crate::surveying::find_pages;
+use crate::surveying::find_dirty;
 use device::{Device, DeviceFault};
 use record::{Head, Record};
 use recovery::write_record;
 
 // Writes and settles what waits; where nothing waits, does nothing.
 fn flush_waiting<D: Device>(device: &mut D, state: &State) -> Result<(), DeviceFault>
-    ensures { OnLog state.now (D.Device.disk device.old) → Tries (D.Device.disk device.old) (flushing state.now) result (D.Device.disk device.new) }
+    requires { OnLog state.now (D.Device.disk device.old) }
+    ensures { Tries (D.Device.disk device.old) (flushing state.now) result (D.Device.disk device.new) }
 {
-    if state.spool.count == 0 {
+    if state.spool.is_empty() {
         return Ok(());
     }
     flush_out(device, state)
 }
 
 // Writes page records of these pages after what waited, and settles them.
-fn cover<D: Device>(device: &mut D, state: &State, due: &[bool; PAGES]) -> Result<(), DeviceFault>
-    requires { state.now.log.last + state.now.spool.count + 65 < 2 ^ 63 }
-    ensures { OnLog state.now (D.Device.disk device.old) → Tries (D.Device.disk device.old) (covering state.now (chosen (flag due.now) 0 64)) result (D.Device.disk device.new) }
+fn cover<D: Device>(device: &mut D, state: &State, due: &[usize]) -> Result<(), DeviceFault>
+    requires bounded { state.now.log.last + array_vec_len state.now.spool + length due.now < 2 ^ 63 }
+    requires inside { EachIndex due.now (λ i. slice_index due.now i < 64) }
+    requires lies { OnLog state.now (D.Device.disk device.old) }
+    ensures { Tries (D.Device.disk device.old) (covering state.now due.now) result (D.Device.disk device.new) }
 {
-    let last = state.log.last + state.spool.count as u64;
-    write_pages(device, &state.log, last, &state.image.memory, due)?;
+    write_pages(
+        device,
+        &state.log,
+        state.written_to(),
+        &state.image.memory,
+        due,
+    )?;
     device.barrier()
 }
 
 // Writes these pages home, and settles them.
-fn go_home<D: Device>(
-    device: &mut D,
-    state: &State,
-    dirty: &[bool; PAGES],
-) -> Result<(), DeviceFault>
-    ensures { OnLog state.now (D.Device.disk device.old) → Tries (D.Device.disk device.old) (going_home state.now (chosen (flag dirty.now) 0 64)) result (D.Device.disk device.new) }
+fn go_home<D: Device>(device: &mut D, state: &State, pages: &[usize]) -> Result<(), DeviceFault>
+    requires inside { EachIndex pages.now (λ i. slice_index pages.now i < 64) }
+    requires lies { OnLog state.now (D.Device.disk device.old) }
+    ensures { Tries (D.Device.disk device.old) (going_home state.now pages.now) result (D.Device.disk device.new) }
 {
-    write_homes(device, state.log.places, &state.image.memory, dirty)?;
+    write_homes(device, state.log.places, &state.image.memory, pages)?;
     device.barrier()
 }
 
 // Writes the mark at which the log begins anew after so many page records, and settles it.
 fn mark_anew<D: Device>(device: &mut D, state: &State, due: usize) -> Result<(), DeviceFault>
     requires few { due ≤ 64 }
-    requires bounded { state.now.log.last + state.now.spool.count + 65 < 2 ^ 63 }
-    ensures { OnLog state.now (D.Device.disk device.old) → Tries (D.Device.disk device.old) (marking state.now.log.places (covered_to state.now due) state.now.log.ordinal) result (D.Device.disk device.new) }
+    requires bounded { state.now.log.last + array_vec_len state.now.spool + 65 < 2 ^ 63 }
+    requires lies { OnLog state.now (D.Device.disk device.old) }
+    ensures { Tries (D.Device.disk device.old) (marking state.now.log.places (covered_to state.now due) state.now.log.ordinal) result (D.Device.disk device.new) }
 {
-    let serial = state.log.last + state.spool.count as u64 + due as u64 + 1;
+    let serial = state.written_to() + due as u64 + 1;
     let head = Head {
         serial,
         low: serial,
@@ -65,42 +73,38 @@ fn mark_anew<D: Device>(device: &mut D, state: &State, due: usize) -> Result<(),
 }
 
 // All that a truncation writes: what waits, page records, homes, and the mark.
-fn truncate_out<D: Device>(
-    device: &mut D,
-    state: &State,
-    dirty: &[bool; PAGES],
-    due: &[bool; PAGES],
-) -> Result<(), DeviceFault>
-    requires { state.now.log.last + state.now.spool.count + 65 < 2 ^ 63 }
-    ensures { OnLog state.now (D.Device.disk device.old) → Tries (D.Device.disk device.old) (truncating state.now (chosen (flag due.now) 0 64) (chosen (flag dirty.now) 0 64)) result (D.Device.disk device.new) }
+fn truncate_out<D: Device>(device: &mut D, state: &State, dirty: &Dirty) -> Result<(), DeviceFault>
+    requires bounded { state.now.log.last + array_vec_len state.now.spool + 65 < 2 ^ 63 }
+    requires lies { OnLog state.now (D.Device.disk device.old) }
+    ensures { Tries (D.Device.disk device.old) (truncating state.now dirty.now.due.items dirty.now.pages.items) result (D.Device.disk device.new) }
 {
     flush_waiting(device, state)?;
-    cover(device, state, due)?;
-    go_home(device, state, dirty)?;
-    mark_anew(device, state, count(due))
+    cover(device, state, &dirty.due)?;
+    go_home(device, state, &dirty.pages)?;
+    mark_anew(device, state, dirty.due.len())
 }
 
-// Truncates, once it is known which pages are named and covered.
+// Truncates, once it is known which pages are dirty.
 fn truncate_pages<D: Device>(
     device: &mut D,
     state: &mut State,
-    pages: &Pages,
+    dirty: &Dirty,
 ) -> Result<usize, StoreFault>
-    requires { state.old.log.last + state.old.spool.count + 65 < 2 ^ 63 }
-    ensures { OnLog state.old (D.Device.disk device.old) → Found state.old (D.Device.disk device.old).shows pages.now → PagesAnswer state.old (D.Device.disk device.old) result state.new (D.Device.disk device.new) }
+    requires bounded { state.old.log.last + array_vec_len state.old.spool + 65 < 2 ^ 63 }
+    requires lies { OnLog state.old (D.Device.disk device.old) }
+    requires dirty { FoundDirty state.old (D.Device.disk device.old).shows dirty.now }
+    ensures { PagesAnswer state.old (D.Device.disk device.old) result state.new (D.Device.disk device.new) }
 {
-    let due = due_of(pages);
-    let records = count(&due);
+    let records = dirty.due.len();
     state.has_log(records)?;
     // What waits names a page, so that nothing waits where no page is named.
-    let dirty = count(&pages.named);
-    if dirty == 0 {
+    if dirty.pages.is_empty() {
         return Ok(0);
     }
     state.on = false;
-    truncate_out(device, state, &pages.named, &due)?;
+    truncate_out(device, state, dirty)?;
     state.truncated(records);
-    Ok(dirty)
+    Ok(dirty.pages.len())
 }
 
 // Writes dirty pages home and begins the log anew, where there are serials and log for that.
@@ -108,12 +112,13 @@ pub(crate) fn truncate_store<D: Device>(
     device: &mut D,
     state: &mut State,
 ) -> Result<usize, StoreFault>
-    ensures { LiesOn state.old (D.Device.disk device.old) → Truncates state.old (D.Device.disk device.old) result state.new (D.Device.disk device.new) }
+    requires { LiesOn state.old (D.Device.disk device.old) }
+    ensures { Truncates state.old (D.Device.disk device.old) result state.new (D.Device.disk device.new) }
 {
     state.may_begin()?;
     state.has_serials()?;
-    match find_pages(device, state) {
-        Ok(pages) => truncate_pages(device, state, &pages),
+    match find_dirty(device, state) {
+        Ok(dirty) => truncate_pages(device, state, &dirty),
         Err(fault) => {
             state.on = false;
             Err(StoreFault::Device(fault))

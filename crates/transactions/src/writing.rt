@@ -1,7 +1,8 @@
 // Writing records at the end of the log.
-ghost use Rattle.std.specs.Prelude.{◌≡◌, ℕ, ◌+◌, ◌/◌, ◌%◌, ◌^◌, ◌<◌, ◌≤◌, [], ◌∷◌, ◌++◌, length, take, if◌then◌else◌};
-ghost use Rattle.device.specs.Trace.{Tries, wrote, settled};
-ghost use Rattle.durability.specs.Items.{Item, appending, recorded};
+ghost use Rattle.std.specs.Prelude.{◌+◌, ◌%◌, ◌^◌, ◌<◌, ◌≤◌, [], ◌∷◌, if◌then◌else◌};
+ghost use Rattle.arrayvec.specs.ArrayVec.{array_vec_len};
+ghost use Rattle.device.specs.Trace.{Tries, wrote};
+ghost use Rattle.durability.specs.Items.{appending, recorded};
 ghost use Rattle.image.specs.Cut.{FitsPage, AllPieces};
 ghost use Rattle.record.specs.Entry.{laid_out};
 ghost use Rattle.transactions.specs.Parts.{part, parts, item_of, waiting};
@@ -9,8 +10,8 @@ ghost use Rattle.transactions.specs.Parts.{part, parts, item_of, waiting};
 use crate::log::Log;
 use crate::spool::{Spool, Spooled};
 use device::{Device, DeviceFault};
-use image::{MEMORY, PAGE, Piece, Pieces};
-use record::{Head, Record};
+use image::{MEMORY, Piece, Pieces};
+use record::Record;
 use recovery::write_record;
 
 // Writes a part that waited, with this serial.
@@ -20,19 +21,15 @@ fn write_spooled<D: Device>(
     serial: u64,
     item: &Spooled,
 ) -> Result<(), DeviceFault>
-    ensures { log.now.places ≤ (D.Device.disk device.old).plate.sectors → Tries (D.Device.disk device.old) (wrote (serial % log.now.places) (laid_out (recorded log.now.low serial (item_of item.now))) ∷ []) result (D.Device.disk device.new) }
+    requires { log.now.places ≤ (D.Device.disk device.old).plate.sectors }
+    ensures { Tries (D.Device.disk device.old) (wrote (serial % log.now.places) (laid_out (recorded log.now.low serial (item_of item.now))) ∷ []) result (D.Device.disk device.new) }
 {
-    let head = Head {
-        serial,
-        low: log.low,
-        ordinal: item.ordinal,
-    };
     let record = Record::Part {
-        head,
+        head: log.head(serial, item.ordinal),
         page: item.page,
         offset: item.offset,
         last: item.last,
-        bytes: &item.bytes[0..item.size as usize],
+        bytes: &item.bytes[..item.size as usize],
     };
     write_record(device, log.places, &record)
 }
@@ -43,38 +40,38 @@ pub(crate) fn write_spool<D: Device>(
     log: &Log,
     spool: &Spool,
 ) -> Result<(), DeviceFault>
-    requires { log.now.last + spool.now.count < 2 ^ 63 }
-    ensures { log.now.places ≤ (D.Device.disk device.old).plate.sectors → Tries (D.Device.disk device.old) (appending log.now.places log.now.low log.now.last (waiting spool.now)) result (D.Device.disk device.new) }
+    requires bounded { log.now.last + array_vec_len spool.now < 2 ^ 63 }
+    requires room { log.now.places ≤ (D.Device.disk device.old).plate.sectors }
+    ensures { Tries (D.Device.disk device.old) (appending log.now.places log.now.low log.now.last (waiting spool.now)) result (D.Device.disk device.new) }
 {
-    for i in 0..spool.count {
-        write_spooled(device, log, log.last + 1 + i as u64, &spool.items[i])?;
+    for (i, item) in spool.iter().enumerate() {
+        write_spooled(device, log, log.last + 1 + i as u64, item)?;
     }
     Ok(())
 }
 
-// Writes a piece of the memory as a part of a transaction.
+// Writes a piece of the memory as a part of the next transaction, with this serial.
 fn write_piece<D: Device>(
     device: &mut D,
-    places: usize,
-    head: Head,
+    log: &Log,
+    serial: u64,
     memory: &[u8; MEMORY],
-    piece: Piece,
+    piece: &Piece,
     last: bool,
 ) -> Result<(), DeviceFault>
-    requires fits { FitsPage piece }
-    requires some { 1 ≤ places }
-    ensures { places ≤ (D.Device.disk device.old).plate.sectors → Tries (D.Device.disk device.old) (wrote (head.serial % places) (laid_out (recorded head.low head.serial (part head.ordinal memory.now (if last then 2 else 1) piece))) ∷ []) result (D.Device.disk device.new) }
+    requires fits { FitsPage piece.now }
+    requires numbered { log.now.ordinal < 2 ^ 63 }
+    requires room { log.now.places ≤ (D.Device.disk device.old).plate.sectors }
+    ensures { Tries (D.Device.disk device.old) (wrote (serial % log.now.places) (laid_out (recorded log.now.low serial (part (log.now.ordinal + 1) memory.now (if last then 2 else 1) piece.now))) ∷ []) result (D.Device.disk device.new) }
 {
-    let start = piece.start;
-    let end = start + piece.size;
     let record = Record::Part {
-        head,
-        page: (start / PAGE) as u16,
-        offset: (start % PAGE) as u16,
+        head: log.head(serial, log.ordinal + 1),
+        page: piece.page() as u16,
+        offset: piece.offset() as u16,
         last,
-        bytes: &memory[start..end],
+        bytes: &memory[piece.start..piece.start + piece.size],
     };
-    write_record(device, places, &record)
+    write_record(device, log.places, &record)
 }
 
 // Writes the pieces of a transaction that declared them, each with the next serial after `last`.
@@ -85,25 +82,15 @@ pub(crate) fn write_pieces<D: Device>(
     memory: &[u8; MEMORY],
     pieces: &Pieces,
 ) -> Result<(), DeviceFault>
-    requires bounded { last + pieces.now.count < 2 ^ 63 }
+    requires bounded { last + array_vec_len pieces.now < 2 ^ 63 }
     requires numbered { log.now.ordinal < 2 ^ 63 }
-    requires fit { AllPieces (take pieces.now.count pieces.now.items) }
-    ensures { log.now.places ≤ (D.Device.disk device.old).plate.sectors → Tries (D.Device.disk device.old) (appending log.now.places log.now.low last (parts (log.now.ordinal + 1) memory.now (take pieces.now.count pieces.now.items))) result (D.Device.disk device.new) }
+    requires fit { AllPieces pieces.now.items }
+    requires room { log.now.places ≤ (D.Device.disk device.old).plate.sectors }
+    ensures { Tries (D.Device.disk device.old) (appending log.now.places log.now.low last (parts (log.now.ordinal + 1) memory.now pieces.now.items)) result (D.Device.disk device.new) }
 {
-    for i in 0..pieces.count {
-        let head = Head {
-            serial: last + 1 + i as u64,
-            low: log.low,
-            ordinal: log.ordinal + 1,
-        };
-        write_piece(
-            device,
-            log.places,
-            head,
-            memory,
-            pieces.items[i],
-            i + 1 == pieces.count,
-        )?;
+    for (i, piece) in pieces.iter().enumerate() {
+        let serial = last + 1 + i as u64;
+        write_piece(device, log, serial, memory, piece, i + 1 == pieces.len())?;
     }
     Ok(())
 }

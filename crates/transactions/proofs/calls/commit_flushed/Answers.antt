@@ -2,11 +2,12 @@
 use Rattle.std.proofs.Common.{true, ◌++◌, refl, arith}
 use Rattle.std.proofs.lemmas.Result.{err_from_is_err_and}
 use Rattle.transactions.specs.State.{spooled, own}
+use Rattle.arrayvec.specs.ArrayVec.{array_vec_len}
 use Rattle.transactions.proofs.Plans.{roomy, writing_cut, some_pieces, passes_own}
 use Rattle.transactions.proofs.calls.commit_flushed.Goals as goal
 
 pub returns-in_err-commit_out : goal.returns-in_err-commit_out
-returns-in_err-commit_out g c h =
+returns-in_err-commit_out g c =
     let s = c.args.state.now in
     let p = err_from_is_err_and c.from_residual.result c.from_residual.ensures.1 in
     rw (p.1, p.2)
@@ -14,7 +15,7 @@ returns-in_err-commit_out g c h =
       some = c.requires.some;
       passes = passes_own s c.args.pieces.now true c.requires.pieces c.requires.passes;
       flushing = refl;
-      cut = writing_cut s _ (g.D.Device.disk c.args.device.now) (g.D.Device.disk c.commit_out.new.device) (spooled s ++ own s) c.in_err-commit_out.field-0.0 (c.in_err-commit_out.ensures h) refl refl;
+      cut = writing_cut s _ (g.D.Device.disk c.args.device.now) (g.D.Device.disk c.commit_out.new.device) (spooled s ++ own s) c.in_err-commit_out.field-0.0 c.in_err-commit_out.ensures refl refl;
     }
 
 pub committed-requires : goal.committed-requires
@@ -22,13 +23,13 @@ committed-requires g c =
     let s = c.args.state.now in
     let ps = c.args.pieces.now in
     record {
-      bounded = omega (arith, (roomy s ps.count true c.requires.passes).serials);
+      bounded = omega (arith, (roomy s (array_vec_len ps) true c.requires.passes).serials);
       some = some_pieces s ps c.requires.pieces c.requires.some;
       pieces = c.requires.pieces;
     }
 
 pub returns : goal.returns
-returns g c h =
+returns g c =
     let s = c.args.state.now in
     let done = c.committed.ensures in
     let at = done.written.log in
@@ -38,7 +39,7 @@ returns g c h =
       passes = passes_own s c.args.pieces.now true c.requires.pieces c.requires.passes;
       answer = done.answer;
       enters = (
-        c.in_ok-commit_out.ensures h,
+        c.in_ok-commit_out.ensures,
         record {
           log = record { places_is = at.places_is; low_is = at.low_is; last_is = at.last_is; ordinal_is = at.ordinal_is };
           empty = done.written.empty;

@@ -1,13 +1,14 @@
 -- What waits is written, then the pieces, and then there is a barrier.
-use Rattle.std.proofs.Common.{◌≤◌, true, List, [], ◌∷◌, ◌++◌, Err, sym, ap, subst, arith}
+use Rattle.std.proofs.Common.{ℕ, true, List, [], ◌∷◌, ◌++◌, Err, sym, subst, arith}
 use Rattle.std.proofs.lemmas.Result.{err_from_is_err_and}
-use Rattle.device.specs.Trace.{Act, settled, Tries}
-use Rattle.device.proofs.Plans.{tries_after, done_plate}
-use Rattle.transactions.proofs.Plans.{on_device, spool_plan, piece_plan, commit_plan, cut_first, then_settled, roomy, pieces_fit}
+use Rattle.device.specs.Trace.{Act, settled, Done, Tries}
+use Rattle.device.proofs.Plans.{tries_after}
+use Rattle.arrayvec.specs.ArrayVec.{array_vec_len}
+use Rattle.transactions.proofs.Plans.{on_device, still_on, spool_plan, pieces_after, piece_plan, commit_plan, cut_first, then_settled, roomy, pieces_fit}
 use Rattle.transactions.proofs.calls.commit_out.Goals as goal
 
 pub returns-in_err-write_spool : goal.returns-in_err-write_spool
-returns-in_err-write_spool g c h =
+returns-in_err-write_spool g c =
     let d = g.D.Device.disk c.args.device.now in
     let e = g.D.Device.disk c.write_spool.new.device in
     let s = c.args.state.now in
@@ -16,20 +17,23 @@ returns-in_err-write_spool g c h =
     let p = err_from_is_err_and c.from_residual.result c.from_residual.ensures.1 in
     rw (p.1, p.2)
     (subst (λ (plan : List Act). Tries d plan (Err f) e) (sym (commit_plan s ps c.requires.pieces))
-    (cut_first d e (spool_plan s) (piece_plan s ps ++ (settled ∷ [])) f (c.in_err-write_spool.ensures (on_device s d h))))
+    (cut_first d e (spool_plan s) (piece_plan s ps ++ (settled ∷ [])) f c.in_err-write_spool.ensures))
 
 pub write_pieces-requires : goal.write_pieces-requires
 write_pieces-requires g c =
     let s = c.args.state.now in
-    let room = roomy s c.args.pieces.now.count true c.requires.passes in
+    let d = g.D.Device.disk c.args.device.now in
+    let m = g.D.Device.disk c.write_spool.new.device in
+    let room = roomy s (array_vec_len c.args.pieces.now) true c.requires.passes in
     record {
       bounded = omega (arith, room.serials);
       numbered = omega (arith, s.numbered, s.bounded);
       fit = pieces_fit s c.args.pieces.now c.requires.pieces;
+      room = on_device s m (still_on s d m (spool_plan s) c.in_ok-write_spool.ensures c.requires.lies);
     }
 
 pub returns-in_err-write_pieces : goal.returns-in_err-write_pieces
-returns-in_err-write_pieces g c h =
+returns-in_err-write_pieces g c =
     let d = g.D.Device.disk c.args.device.now in
     let m = g.D.Device.disk c.write_spool.new.device in
     let e = g.D.Device.disk c.write_pieces.new.device in
@@ -37,15 +41,14 @@ returns-in_err-write_pieces g c h =
     let ps = c.args.pieces.now in
     let f = c.in_err-write_pieces.field-0.0 in
     let p = err_from_is_err_and c.from_residual-in_err-write_pieces.result c.from_residual-in_err-write_pieces.ensures.1 in
-    let first = c.in_ok-write_spool.ensures (on_device s d h) in
-    let room : s.log.places ≤ m.plate.sectors = omega (arith, on_device s d h, ap (λ v. v.sectors) (done_plate d m (spool_plan s) first)) in
+    let first = c.in_ok-write_spool.ensures in
     rw (p.1, p.2)
     (subst (λ (plan : List Act). Tries d plan (Err f) e) (sym (commit_plan s ps c.requires.pieces))
     (tries_after d m e (spool_plan s) (piece_plan s ps ++ (settled ∷ [])) (Err f) first
-    (cut_first m e (piece_plan s ps) (settled ∷ []) f (c.in_err-write_pieces.ensures room))))
+    (cut_first m e (piece_plan s ps) (settled ∷ []) f (subst (λ (k : ℕ). Tries m (pieces_after s ps k) (Err f) e) c.written_to-last.ensures c.in_err-write_pieces.ensures))))
 
 pub returns : goal.returns
-returns g c h =
+returns g c =
     let d = g.D.Device.disk c.args.device.now in
     let m = g.D.Device.disk c.write_spool.new.device in
     let k = g.D.Device.disk c.write_pieces.new.device in
@@ -53,8 +56,7 @@ returns g c h =
     let s = c.args.state.now in
     let ps = c.args.pieces.now in
     let r = c.barrier.result in
-    let first = c.in_ok-write_spool.ensures (on_device s d h) in
-    let room : s.log.places ≤ m.plate.sectors = omega (arith, on_device s d h, ap (λ v. v.sectors) (done_plate d m (spool_plan s) first)) in
+    let first = c.in_ok-write_spool.ensures in
     subst (λ (plan : List Act). Tries d plan r e) (sym (commit_plan s ps c.requires.pieces))
     (tries_after d m e (spool_plan s) (piece_plan s ps ++ (settled ∷ [])) r first
-    (then_settled m k e (piece_plan s ps) r (c.in_ok-write_pieces.ensures room) c.barrier.ensures))
+    (then_settled m k e (piece_plan s ps) r (subst (λ (last : ℕ). Done m (pieces_after s ps last) k) c.written_to-last.ensures c.in_ok-write_pieces.ensures) c.barrier.ensures))

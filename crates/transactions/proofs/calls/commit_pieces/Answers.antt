@@ -1,11 +1,12 @@
 -- There is room, or the transaction is undone.
 use Rattle.std.proofs.Common.{Bool, sym, refl, subst, inl, arith}
 use Rattle.transactions.specs.Calls.{Enters}
+use Rattle.arrayvec.specs.ArrayVec.{array_vec_len}
 use Rattle.transactions.proofs.Plans.{roomy, some_pieces, pieces_fit, passes_own, refused_own}
 use Rattle.transactions.proofs.calls.commit_pieces.Goals as goal
 
 pub returns-in-Err : goal.returns-in-Err
-returns-in-Err g c h =
+returns-in-Err g c =
     let s = c.args.state.now in
     inl
     record {
@@ -19,7 +20,7 @@ pub spooled_up-requires : goal.spooled_up-requires
 spooled_up-requires g c =
     let s = c.args.state.now in
     let ps = c.args.pieces.now in
-    let room = roomy s ps.count c.args.flush c.in_default.ensures in
+    let room = roomy s (array_vec_len ps) c.args.flush c.in_default.ensures in
     record {
       room = room.spool c.if-flush.false;
       bounded = omega (arith, room.serials);
@@ -30,7 +31,7 @@ spooled_up-requires g c =
     }
 
 pub returns-else-flush : goal.returns-else-flush
-returns-else-flush g c h =
+returns-else-flush g c =
     let s = c.args.state.now in
     let d = g.D.Device.disk c.args.device.now in
     let done = c.spooled_up.ensures in

@@ -1,11 +1,9 @@
--- The page records of pages below are written, of those whose flags are raised.
-use Rattle.std.proofs.Common.{◌+◌, ◌≤◌}
-use Rattle.transactions.specs.Pages.{flag}
-use Rattle.transactions.proofs.Going.{Going, records_left}
+-- The page records of the pages below are written.
+use Rattle.std.proofs.Common.{map}
+use Rattle.transactions.specs.Truncation.{page_item}
+use Rattle.transactions.proofs.Loops.{Appending}
 use Rattle.transactions.proofs.homes.write_pages.Given as goal
 
-abbrev pub invariant-loop-page : goal.invariant-loop-page
-invariant-loop-page g l =
-    Going l.log.places (g.D.Device.disk l.initial.device) (records_left l.log.places l.log.low l.last l.log.ordinal l.memory (flag l.flags) 0)
-    (g.D.Device.disk l.device) (records_left l.log.places l.log.low l.serial l.log.ordinal l.memory (flag l.flags) l.page)
-    × (l.serial ≤ l.last + l.page)
+abbrev pub invariant-loop-i : goal.invariant-loop-i
+invariant-loop-i g l =
+    Appending l.log.places l.log.low l.last (map (page_item l.log.ordinal l.memory) l.pages) (g.D.Device.disk l.initial.device) (g.D.Device.disk l.device) l.i

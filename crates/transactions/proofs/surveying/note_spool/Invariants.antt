@@ -3,5 +3,5 @@ use Rattle.transactions.specs.Parts.{waiting}
 use Rattle.transactions.proofs.Noting.{FoundPart}
 use Rattle.transactions.proofs.surveying.note_spool.Given as goal
 
-abbrev pub invariant-loop-i : goal.invariant-loop-i
-invariant-loop-i l = FoundPart (waiting l.spool) l.i l.initial.pages l.pages
+abbrev pub invariant-loop-item : goal.invariant-loop-item
+invariant-loop-item l = FoundPart (waiting l.spool) l.item-index l.initial.pages l.pages

@@ -2,22 +2,21 @@
 use Rattle.std.proofs.Common.{[], ◌∷◌}
 use Rattle.std.proofs.lemmas.Result.{err_from_is_err_and}
 use Rattle.device.specs.Trace.{settled}
-use Rattle.transactions.specs.Pages.{flag}
-use Rattle.transactions.proofs.Going.{homes_left}
-use Rattle.transactions.proofs.Plans.{homes_on_device, cut_first, then_settled}
+use Rattle.durability.specs.Promises.{homing}
+use Rattle.transactions.proofs.Plans.{cut_first, then_settled}
 use Rattle.transactions.proofs.truncation.go_home.Goals as goal
 
 pub returns-in_err-write_homes : goal.returns-in_err-write_homes
-returns-in_err-write_homes g c h =
+returns-in_err-write_homes g c =
     let d = g.D.Device.disk c.args.device.now in
     let s = c.args.state.now in
-    let plan = homes_left s.log.places s.image.memory (flag c.args.dirty.now) 0 in
+    let plan = homing s.log.places s.image.memory c.args.pages.now in
     let p = err_from_is_err_and c.from_residual.result c.from_residual.ensures.1 in
-    rw (p.1, p.2) (cut_first d (g.D.Device.disk c.write_homes.new.device) plan (settled ∷ []) c.in_err-write_homes.field-0.0 (c.in_err-write_homes.ensures (homes_on_device s d h)))
+    rw (p.1, p.2) (cut_first d (g.D.Device.disk c.write_homes.new.device) plan (settled ∷ []) c.in_err-write_homes.field-0.0 c.in_err-write_homes.ensures)
 
 pub returns : goal.returns
-returns g c h =
+returns g c =
     let d = g.D.Device.disk c.args.device.now in
     let s = c.args.state.now in
-    let plan = homes_left s.log.places s.image.memory (flag c.args.dirty.now) 0 in
-    then_settled d (g.D.Device.disk c.write_homes.new.device) (g.D.Device.disk c.barrier.new.self) plan c.barrier.result (c.in_ok-write_homes.ensures (homes_on_device s d h)) c.barrier.ensures
+    let plan = homing s.log.places s.image.memory c.args.pages.now in
+    then_settled d (g.D.Device.disk c.write_homes.new.device) (g.D.Device.disk c.barrier.new.self) plan c.barrier.result c.in_ok-write_homes.ensures c.barrier.ensures

@@ -1,49 +1,39 @@
 -- Each run is copied.
-use Rattle.std.proofs.Common.{ℕ, ◌+◌, ◌-◌, List, get_or, drop, sym, ap, ◌∙◌, arith}
-use borrow.Rule.Slice.PartMut.{put_mid}
+use Rattle.std.proofs.Common.{◌+◌, List, get_or, drop, sym, ap, ◌∙◌, arith}
+use Rattle.std.proofs.lemmas.List.{drop_more, drop_all}
 use Rattle.image.specs.declared.run.Run.{Run}
 use Rattle.image.specs.Runs.{run}
 use Rattle.image.specs.Calls.{listed}
 use Rattle.image.proofs.Facts.{bounds}
-use Rattle.image.proofs.Lists.{left_at, none_left}
-use Rattle.image.proofs.Copying.{copied, copied_part, copied_is}
+use Rattle.image.proofs.Copying.{copied, copied_is, over_is, settled}
 use Rattle.image.proofs.runs.Runs.copy.Goals as goal
 
-pub slice_bounds-copy_from_slice-count : goal.slice_bounds-copy_from_slice-count
-slice_bounds-copy_from_slice-count c = omega (arith, bounds c.args.self.now c.loop-i.i c.loop-i-test.true)
+pub copy-requires : goal.copy-requires
+copy-requires c =
+    let b = bounds c.args.self.now c.deref-run-items.result.now c.loop-run.run-index (run 0 0) c.deref-run-items.ensures.0 c.loop-run-test.true in
+    record { some = omega arith; inside = b.1 }
 
-pub slice_bounds-copy_from_slice-start : goal.slice_bounds-copy_from_slice-start
-slice_bounds-copy_from_slice-start c = omega (arith, bounds c.args.self.now c.loop-i.i c.loop-i-test.true)
-
-pub slice_bounds-copy_from_slice-end : goal.slice_bounds-copy_from_slice-end
-slice_bounds-copy_from_slice-end c = omega (arith, bounds c.args.self.now c.loop-i.i c.loop-i-test.true)
-
-pub slice_bounds-copy_from_slice-count-in-loop-i : goal.slice_bounds-copy_from_slice-count-in-loop-i
-slice_bounds-copy_from_slice-count-in-loop-i c = omega (arith, bounds c.args.self.now c.loop-i.i c.loop-i-test.true)
-
-pub slice_bounds-copy_from_slice-start-in-loop-i : goal.slice_bounds-copy_from_slice-start-in-loop-i
-slice_bounds-copy_from_slice-start-in-loop-i c = omega (arith, bounds c.args.self.now c.loop-i.i c.loop-i-test.true)
-
-pub slice_bounds-copy_from_slice-end-in-loop-i : goal.slice_bounds-copy_from_slice-end-in-loop-i
-slice_bounds-copy_from_slice-end-in-loop-i c = omega (arith, bounds c.args.self.now c.loop-i.i c.loop-i-test.true)
-
-pub loop-i-preserved : goal.loop-i-preserved
-loop-i-preserved c j =
-    let s = c.args.self.now in
-    let l = c.loop-i in
+pub loop-run-preserved : goal.loop-run-preserved
+loop-run-preserved c =
+    let l = c.loop-run in
     let source = c.args.source.now in
-    let r = get_or s.items l.i (run 0 0) in
-    let b = bounds s l.i c.loop-i-test.true in
-    let rest = drop (l.i + 1) (listed s) in
-    let e = left_at s.count l.i s.items (run 0 0) (omega arith) c.loop-i-test.true in
-    ap (λ (ys : List ℕ). copied rest source j (get_or (put_mid r.from (r.to - r.from) l.target ys) j 0)) c.copy_from_slice.ensures.after
-    ∙ ap (λ (v : ℕ). copied rest source j v) (copied_part r source l.target j (omega arith) (omega arith) (omega arith))
-    ∙ ap (λ (xs : List Run). copied xs source j (get_or l.target j 0)) (sym e) ∙ l.invariant j
+    let xs = c.deref-run-items.result.now in
+    let r = get_or xs l.run-index (run 0 0) in
+    let e = drop_more xs l.run-index (run 0 0) c.loop-run-test.true in
+    record {
+      size = c.copy.array_long;
+      bytes = λ j.
+          ap (copied (drop (l.run-index + 1) xs) source j) (c.copy.ensures j ∙ over_is r source j (get_or l.target j 0))
+          ∙ ap (λ (rs : List Run). copied rs source j (get_or l.target j 0)) (sym e) ∙ l.invariant.bytes j;
+    }
 
 pub returns : goal.returns
-returns c i =
-    let s = c.args.self.now in
-    let l = c.loop-i in
+returns c same =
+    let rs = listed c.args.self.now in
+    let l = c.loop-run in
     let source = c.args.source.now in
-    ap (λ (xs : List Run). copied xs source i (get_or l.target i 0)) (sym (none_left s.count l.i s.items c.loop-i-test.false))
-    ∙ l.invariant i ∙ copied_is (listed s) source i (get_or c.args.target.now i 0)
+    let e = drop_all l.run-index c.deref-run-items.result.now c.loop-run-test.false in
+    settled rs source c.args.target.now l.target (l.invariant.size ∙ sym c.told-source) (λ i n. sym (same i n))
+    (λ i.
+    ap (λ (xs : List Run). copied xs source i (get_or l.target i 0)) (sym e)
+    ∙ l.invariant.bytes i ∙ copied_is rs source i (get_or c.args.target.now i 0))

@@ -4,5 +4,5 @@ use Rattle.image.specs.Calls.{listed}
 use Rattle.image.proofs.Reaching.{reach}
 use Rattle.image.proofs.runs.Runs.reached.Given as goal
 
-abbrev pub invariant-loop-i : goal.invariant-loop-i
-invariant-loop-i l = reach l.at (drop l.i (listed l.self)) ≡ reach l.start (listed l.self)
+abbrev pub invariant-loop-run : goal.invariant-loop-run
+invariant-loop-run l = reach l.at (drop l.run-index l.run-items) ≡ reach l.start (listed l.self)

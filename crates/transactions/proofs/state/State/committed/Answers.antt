@@ -1,5 +1,5 @@
 -- The last serial goes up by what waited and by the transaction's own records.
-use Rattle.std.proofs.Common.{ℕ, ◌+◌, sym, refl, ap}
+use Rattle.std.proofs.Common.{ℕ, ◌+◌, length, sym, refl, ap, ◌∙◌, arith}
 use Rattle.transactions.proofs.Loops.{length_of_own, length_all}
 use Rattle.transactions.proofs.state.State.committed.Goals as goal
 
@@ -8,11 +8,11 @@ returns c =
     let s = c.args.self.now in
     let ps = c.args.pieces.now in
     record {
-      answer = ap (λ (k : ℕ). (s.log.ordinal + 1, k)) (sym (length_of_own s ps c.requires.pieces));
+      answer = ap (λ (k : ℕ). (s.log.ordinal + 1, k)) (c.len-records.ensures.value ∙ sym (length_of_own s ps c.requires.pieces));
       written =
           record {
-            log = record { places_is = refl; low_is = refl; last_is = ap (λ (k : ℕ). s.log.last + k) (sym (length_all s ps c.requires.pieces)); ordinal_is = refl };
-            empty = refl;
+            log = record { places_is = refl; low_is = refl; last_is = omega (arith, length_all s ps c.requires.pieces); ordinal_is = refl };
+            empty = ap length c.clear.ensures;
             on = refl;
           };
       over = record { image = c.keep.ensures; free = refl };

@@ -1,5 +1,5 @@
 -- The last serial goes up by what waited.
-use Rattle.std.proofs.Common.{ℕ, ◌+◌, sym, refl, ap}
+use Rattle.std.proofs.Common.{ℕ, ◌+◌, length, sym, refl, ap, ◌∙◌}
 use Rattle.transactions.proofs.Loops.{length_waiting}
 use Rattle.transactions.proofs.state.State.flushed.Goals as goal
 
@@ -7,11 +7,11 @@ pub returns : goal.returns
 returns c =
     let s = c.args.self.now in
     record {
-      count = refl;
+      count = c.len-count.ensures.value;
       written =
           record {
-            log = record { places_is = refl; low_is = refl; last_is = ap (λ (k : ℕ). s.log.last + k) (sym (length_waiting s.spool)); ordinal_is = refl };
-            empty = refl;
+            log = record { places_is = refl; low_is = refl; last_is = c.written_to-self.ensures ∙ ap (λ (k : ℕ). s.log.last + k) (sym (length_waiting s.spool)); ordinal_is = refl };
+            empty = ap length c.clear.ensures;
             on = refl;
           };
       same = (refl, refl);

@@ -10,7 +10,7 @@ returns c =
     let s = c.args.self.now in
     let ps = c.args.pieces.now in
     record {
-      answer = ap (λ (k : ℕ). (s.log.ordinal + 1, k)) (sym (length_of_own s ps c.requires.pieces));
+      answer = ap (λ (k : ℕ). (s.log.ordinal + 1, k)) (c.len.ensures.value ∙ sym (length_of_own s ps c.requires.pieces));
       spooled =
           record {
             log = record { places_is = refl; low_is = refl; last_is = refl; ordinal_is = refl };
