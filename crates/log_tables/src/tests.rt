@@ -5,7 +5,7 @@ use bench::Bench;
 use record::{Head, Record};
 use std::process::Abort;
 use std::test::Fail;
-use store::{Store, StoreFault};
+use transactions::{Store, StoreFault};
 
 // Numbers put into a sector: a serial, a low and an ordinal; a kind, a page, an offset and a length; or
 // the byte after those.

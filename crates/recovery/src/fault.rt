@@ -6,7 +6,7 @@ ghost use Rattle.std.specs.Prelude.{◌≡◌};
 use device::DeviceFault;
 use journal::LogFault;
 
-#[derive(Clone, Copy)]
+#[derive(Clone, Copy, PartialEq, Eq, Debug)]
 pub enum RecoveryFault {
     // The device said no: power failed.
     Device(DeviceFault),

@@ -3,7 +3,7 @@ use crate::{Card, SECTORS, say_fault};
 use bench::Bench;
 use device::{Device, DeviceFault};
 use record::{Head, Record};
-use store::{Store, StoreFault};
+use transactions::{Store, StoreFault};
 
 fn say_store_fault(rt: &HostRuntime, fault: StoreFault) -> anyhow::Result<()> {
     match fault {

@@ -7,7 +7,7 @@ use device::DeviceFault;
 use image::ImageFault;
 use recovery::RecoveryFault;
 
-#[derive(Clone, Copy)]
+#[derive(Clone, Copy, PartialEq, Eq, Debug)]
 pub enum StoreFault {
     // The device said no: power failed, or the store is off.
     Device(DeviceFault),
