@@ -1,87 +1,54 @@
-// A card: the bytes under a bench device, which stay when the device is let go.
+// The two cards, and what is done to them while no pile is in use.
 use crate::answer::{Answer, Hex};
 use crate::command::{CardCommand, Side};
 use crate::words::LineFault;
 use bench::Bench;
+use cards::Card;
 use device::{DeviceFault, SECTOR};
 use std::alloc::{AllocError, Global};
 use std::fmt;
 
-#[derive(Drop)]
-pub struct Card {
-    sectors: Vec<[u8; SECTOR]>,
-    // One a sector; not zero where it is spoiled.
-    flags: Vec<u8>,
-    plan: Vec<u8>,
-    origin: u8,
+// What a sector shows, where there is one.
+fn show(card: &Card, sector: usize) -> Option<Shown<'_>> {
+    Some(Shown::of(card.sectors.get(sector)?, *card.flags.get(sector)?))
 }
 
-impl Card {
-    fn new(heap: Global, sectors: usize, origin: u8) -> Result<Card, AllocError> {
-        Ok(Card {
-            sectors: vec![in heap; [0u8; SECTOR]; sectors]?,
-            flags: vec![in heap; 0u8; sectors]?,
-            plan: Vec::new(heap),
-            origin,
-        })
-    }
+// Puts 128 bytes into a sector, which is then not spoiled.
+fn poke(card: &mut Card, sector: usize, bytes: &[u8]) -> Option<()> {
+    *card.sectors.get_mut(sector)? = bytes.try_into().ok()?;
+    flag(card, sector, 0)
+}
 
-    // The bench device over the card.
-    fn device(&mut self) -> Result<Bench<'_>, DeviceFault> {
-        let Card {
-            sectors,
-            flags,
-            plan,
-            origin,
-        } = self;
-        Bench::new(
-            sectors.as_flattened_mut(),
-            flags.as_mut_slice(),
-            plan.as_slice(),
-            *origin,
-        )
-    }
+// Marks a sector as spoiled or whole; its bytes stay.
+fn flag(card: &mut Card, sector: usize, flag: u8) -> Option<()> {
+    *card.flags.get_mut(sector)? = flag;
+    Some(())
+}
 
-    // What a sector shows, where there is one.
-    fn show(&self, sector: usize) -> Option<Shown<'_>> {
-        Some(Shown::of(self.sectors.get(sector)?, *self.flags.get(sector)?))
-    }
+// Zeros in so many sectors, none of them spoiled. The plan and the origin stay.
+fn blank(card: &mut Card, heap: Global, sectors: usize) -> Result<(), AllocError> {
+    let Card { sectors, flags, .. } = Card::blank(heap, sectors, card.origin)?;
+    card.sectors = sectors;
+    card.flags = flags;
+    Ok(())
+}
 
-    // Puts 128 bytes into a sector, which is then not spoiled.
-    fn poke(&mut self, sector: usize, bytes: &[u8]) -> Option<()> {
-        *self.sectors.get_mut(sector)? = bytes.try_into().ok()?;
-        self.flag(sector, 0)
-    }
-
-    // Marks a sector as spoiled or whole; its bytes stay.
-    fn flag(&mut self, sector: usize, flag: u8) -> Option<()> {
-        *self.flags.get_mut(sector)? = flag;
-        Some(())
-    }
-
-    // Zeros in so many sectors, none of them spoiled.
-    fn blank(&mut self, heap: Global, sectors: usize) -> Result<(), AllocError> {
-        let Card { sectors, flags, .. } = Card::new(heap, sectors, self.origin)?;
-        self.sectors = sectors;
-        self.flags = flags;
-        Ok(())
-    }
-
-    // Does what a command says, and answers it.
-    fn obey(&mut self, heap: Global, command: CardCommand) -> Result<Answer<'_>, LineFault> {
-        match command {
-            CardCommand::Blank(sectors) => self.blank(heap, sectors)?,
-            CardCommand::Poke(sector, bytes) => self.poke(sector, &bytes).ok_or(LineFault::Bad)?,
-            CardCommand::Spoil(sector) => self.flag(sector, 1).ok_or(LineFault::Bad)?,
-            CardCommand::Plan(plan) => self.plan = plan,
-            CardCommand::Origin(origin) => self.origin = origin,
-            CardCommand::Show(sector) => {
-                return Ok(Answer::Shown(self.show(sector).ok_or(LineFault::Bad)?));
-            }
-            CardCommand::Dump => return Ok(Answer::Dump(Dump(self))),
+// Does what a command says, and answers it.
+fn obey(card: &mut Card, heap: Global, command: CardCommand) -> Result<Answer<'_>, LineFault> {
+    match command {
+        CardCommand::Blank(sectors) => blank(card, heap, sectors)?,
+        CardCommand::Poke(sector, bytes) => {
+            poke(card, sector, bytes.as_slice()).ok_or(LineFault::Bad)?
         }
-        Ok(Answer::Done)
+        CardCommand::Spoil(sector) => flag(card, sector, 1).ok_or(LineFault::Bad)?,
+        CardCommand::Plan(plan) => card.plan = plan,
+        CardCommand::Origin(origin) => card.origin = origin,
+        CardCommand::Show(sector) => {
+            return Ok(Answer::Shown(show(card, sector).ok_or(LineFault::Bad)?));
+        }
+        CardCommand::Dump => return Ok(Answer::Dump(Dump(card))),
     }
+    Ok(Answer::Done)
 }
 
 // What a sector of a card shows.
@@ -147,8 +114,8 @@ impl Cards {
     // Two cards of so many sectors, with origins 1 and 2.
     pub fn new(heap: Global, sectors: usize) -> Result<Cards, AllocError> {
         Ok(Cards {
-            left: Card::new(heap, sectors, 1)?,
-            right: Card::new(heap, sectors, 2)?,
+            left: Card::blank(heap, sectors, 1)?,
+            right: Card::blank(heap, sectors, 2)?,
         })
     }
 
@@ -166,7 +133,7 @@ impl Cards {
         side: Side,
         command: CardCommand,
     ) -> Result<Answer<'_>, LineFault> {
-        self.card(side).obey(heap, command)
+        obey(self.card(side), heap, command)
     }
 
     // A bench device over one of them.
