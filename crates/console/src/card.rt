@@ -1,141 +1,148 @@
-// A card: the bytes under a bench device, which stay when the device is let go.
-use crate::command::CardCommand;
-use crate::words::hex;
-use device::SECTOR;
+// The two cards, and what is done to them while no pile is in use.
+use crate::answer::{Answer, Hex};
+use crate::command::{CardCommand, Side};
+use crate::words::LineFault;
+use bench::Bench;
+use cards::Card;
+use device::{DeviceFault, SECTOR};
 use std::alloc::{AllocError, Global};
+use std::fmt;
 
-#[derive(Drop)]
-pub struct Card {
-    pub bytes: Vec<u8>,
-    // One a sector; not zero where it is spoiled.
-    pub flags: Vec<u8>,
-    pub plan: Vec<u8>,
-    pub origin: u8,
+// What a sector shows, where there is one.
+fn show(card: &Card, sector: usize) -> Option<Shown<'_>> {
+    Some(Shown::of(card.sectors.get(sector)?, *card.flags.get(sector)?))
 }
 
-impl Card {
-    pub fn new(heap: Global, sectors: usize, origin: u8) -> Result<Card, AllocError> {
-        Ok(Card {
-            bytes: vec![in heap; 0u8; sectors.saturating_mul(SECTOR)]?,
-            flags: vec![in heap; 0u8; sectors]?,
-            plan: Vec::new(heap),
-            origin,
+// Puts 128 bytes into a sector, which is then not spoiled.
+fn poke(card: &mut Card, sector: usize, bytes: &[u8]) -> Option<()> {
+    *card.sectors.get_mut(sector)? = bytes.try_into().ok()?;
+    flag(card, sector, 0)
+}
+
+// Marks a sector as spoiled or whole; its bytes stay.
+fn flag(card: &mut Card, sector: usize, flag: u8) -> Option<()> {
+    *card.flags.get_mut(sector)? = flag;
+    Some(())
+}
+
+// Zeros in so many sectors, none of them spoiled. The plan and the origin stay.
+fn blank(card: &mut Card, heap: Global, sectors: usize) -> Result<(), AllocError> {
+    let Card { sectors, flags, .. } = Card::blank(heap, sectors, card.origin)?;
+    card.sectors = sectors;
+    card.flags = flags;
+    Ok(())
+}
+
+// Does what a command says, and answers it.
+fn obey(card: &mut Card, heap: Global, command: CardCommand) -> Result<Answer<'_>, LineFault> {
+    match command {
+        CardCommand::Blank(sectors) => blank(card, heap, sectors)?,
+        CardCommand::Poke(sector, bytes) => {
+            poke(card, sector, bytes.as_slice()).ok_or(LineFault::Bad)?
+        }
+        CardCommand::Spoil(sector) => flag(card, sector, 1).ok_or(LineFault::Bad)?,
+        CardCommand::Plan(plan) => card.plan = plan,
+        CardCommand::Origin(origin) => card.origin = origin,
+        CardCommand::Show(sector) => {
+            return Ok(Answer::Shown(show(card, sector).ok_or(LineFault::Bad)?));
+        }
+        CardCommand::Dump => return Ok(Answer::Dump(Dump(card))),
+    }
+    Ok(Answer::Done)
+}
+
+// What a sector of a card shows.
+#[derive(Clone, Copy)]
+pub enum Shown<'a> {
+    Spoiled,
+    Bytes(&'a [u8; SECTOR]),
+}
+
+impl<'a> Shown<'a> {
+    fn of(bytes: &'a [u8; SECTOR], flag: u8) -> Self {
+        match flag {
+            0 => Shown::Bytes(bytes),
+            _ => Shown::Spoiled,
+        }
+    }
+
+    // It is as on a new card.
+    fn is_blank(&self) -> bool {
+        match self {
+            Shown::Spoiled => false,
+            Shown::Bytes(bytes) => bytes.iter().all(|b| *b == 0),
+        }
+    }
+}
+
+impl fmt::Display for Shown<'_> {
+    fn fmt<W: fmt::Write>(&self, f: &mut fmt::Formatter<W>) -> fmt::Result {
+        match self {
+            Shown::Spoiled => f.write_str("spoiled"),
+            Shown::Bytes(bytes) => {
+                let text = Hex(bytes.as_slice());
+                write!(f, "{text}")
+            }
+        }
+    }
+}
+
+// A line for each sector that is not blank, the lowest first, and one for the end.
+#[derive(Clone, Copy)]
+pub struct Dump<'a>(&'a Card);
+
+impl fmt::Display for Dump<'_> {
+    fn fmt<W: fmt::Write>(&self, f: &mut fmt::Formatter<W>) -> fmt::Result {
+        for (sector, (bytes, flag)) in self.0.sectors.iter().zip(&self.0.flags).enumerate() {
+            let shown = Shown::of(bytes, *flag);
+            if !shown.is_blank() {
+                write!(f, "{sector} {shown}\n")?;
+            }
+        }
+        f.write_str("end")
+    }
+}
+
+// The two cards.
+#[derive(Drop)]
+pub struct Cards {
+    left: Card,
+    right: Card,
+}
+
+impl Cards {
+    // Two cards of so many sectors, with origins 1 and 2.
+    pub fn new(heap: Global, sectors: usize) -> Result<Cards, AllocError> {
+        Ok(Cards {
+            left: Card::blank(heap, sectors, 1)?,
+            right: Card::blank(heap, sectors, 2)?,
         })
     }
 
-    // The bytes of a sector, where there is one.
-    fn sector(&self, sector: usize) -> Option<&[u8]> {
-        let start = sector.checked_mul(SECTOR)?;
-        let end = start.checked_add(SECTOR)?;
-        self.bytes.as_slice().get(start..end)
-    }
-
-    fn spoiled(&self, sector: usize) -> bool {
-        match self.flags.get(sector) {
-            Some(flag) => *flag != 0,
-            None => false,
+    fn card(&mut self, side: Side) -> &mut Card {
+        match side {
+            Side::Left => &mut self.left,
+            Side::Right => &mut self.right,
         }
     }
 
-    // Puts 128 bytes into a sector, which is then not spoiled; false where that can't be.
-    fn poke(&mut self, sector: usize, bytes: &[u8]) -> bool {
-        if bytes.len() != SECTOR || self.sector(sector).is_none() {
-            return false;
-        }
-        let start = sector.saturating_mul(SECTOR);
-        for (i, b) in bytes.iter().enumerate() {
-            if let Some(place) = self.bytes.get_mut(start.saturating_add(i)) {
-                *place = *b;
-            }
-        }
-        self.flag(sector, 0)
+    // Does what a command says to one of them, and answers it.
+    pub fn obey(
+        &mut self,
+        heap: Global,
+        side: Side,
+        command: CardCommand,
+    ) -> Result<Answer<'_>, LineFault> {
+        obey(self.card(side), heap, command)
     }
 
-    // Marks a sector; false where there is none.
-    fn flag(&mut self, sector: usize, value: u8) -> bool {
-        match self.flags.get_mut(sector) {
-            Some(flag) => {
-                *flag = value;
-                true
-            }
-            None => false,
-        }
+    // A bench device over one of them.
+    pub fn device(&mut self, side: Side) -> Result<Bench<'_>, DeviceFault> {
+        self.card(side).device()
     }
 
-    // What a sector shows, as the console writes it; none where there is no such sector.
-    fn shown(&self, heap: Global, sector: usize) -> Result<Option<String>, AllocError> {
-        let Some(bytes) = self.sector(sector) else {
-            return Ok(None);
-        };
-        if self.spoiled(sector) {
-            return Ok(Some(String::from_str(heap, "spoiled")?));
-        }
-        Ok(Some(hex(heap, bytes)?))
-    }
-
-    // Whether a sector is worth a line in a dump: it is spoiled or not all zeros.
-    fn marked(&self, sector: usize) -> bool {
-        let Some(bytes) = self.sector(sector) else {
-            return false;
-        };
-        if self.spoiled(sector) {
-            return true;
-        }
-        for b in bytes {
-            if *b != 0 {
-                return true;
-            }
-        }
-        false
-    }
-
-    fn dump(&self, rt: &HostRuntime) -> anyhow::Result<()> {
-        for sector in 0..self.flags.len() {
-            if self.marked(sector) {
-                if let Some(text) = self.shown(rt.alloc(), sector)? {
-                    println!(rt; "{sector} {text}")?;
-                }
-            }
-        }
-        println!(rt; "end")?;
-        Ok(())
-    }
-
-    // Does what a command says, and answers it.
-    pub fn obey(&mut self, rt: &HostRuntime, command: CardCommand) -> anyhow::Result<()> {
-        let done = match command {
-            CardCommand::Blank(sectors) => {
-                let blank = Card::new(rt.alloc(), sectors, self.origin)?;
-                self.bytes = blank.bytes;
-                self.flags = blank.flags;
-                true
-            }
-            CardCommand::Poke(sector, bytes) => self.poke(sector, bytes.as_slice()),
-            CardCommand::Spoil(sector) => self.flag(sector, 1),
-            CardCommand::Plan(plan) => {
-                self.plan = plan;
-                true
-            }
-            CardCommand::Origin(origin) => {
-                self.origin = origin;
-                true
-            }
-            CardCommand::Show(sector) => return self.show(rt, sector),
-            CardCommand::Dump => return self.dump(rt),
-        };
-        if done {
-            println!(rt; "ok")?;
-        } else {
-            println!(rt; "bad line")?;
-        }
-        Ok(())
-    }
-
-    fn show(&self, rt: &HostRuntime, sector: usize) -> anyhow::Result<()> {
-        match self.shown(rt.alloc(), sector)? {
-            Some(text) => println!(rt; "{text}")?,
-            None => println!(rt; "bad line")?,
-        }
-        Ok(())
+    // One over each. Where both are refused, the left one's refusal answers.
+    pub fn devices(&mut self) -> Result<(Bench<'_>, Bench<'_>), DeviceFault> {
+        Ok((self.left.device()?, self.right.device()?))
     }
 }

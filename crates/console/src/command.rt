@@ -1,6 +1,6 @@
 // A line of the console as a command.
-use crate::words::{byte, bytes, codes, sector_number, size_to};
-use std::alloc::{AllocError, Global};
+use crate::words::{LineFault, bytes, codes, number, size_to};
+use std::alloc::Global;
 
 // One of the two cards.
 #[derive(Clone, Copy)]
@@ -32,11 +32,11 @@ pub enum CardCommand {
     Dump,
 }
 
-// A call of the device that is in use.
+// A call of the device that is in use. A read has its buffer.
 #[derive(Drop)]
 pub enum DeviceCommand {
     Count,
-    Read(usize, usize),
+    Read(usize, Vec<u8>),
     Write(usize, Vec<u8>),
     Barrier,
     Restart,
@@ -59,138 +59,83 @@ pub enum Command {
     Store(StoreCommand),
 }
 
-// A line: nothing to answer, no command, or a command.
-#[derive(Drop)]
-pub enum Line {
-    Empty,
-    Bad,
-    Do(Command),
-}
-
 // The most sectors that a card may have, and the longest buffer that a read may be given.
 const CARD_MOST: usize = 2000;
 
 const READ_MOST: usize = 256;
 
-fn named(word: &str) -> Option<Side> {
+fn side_of(word: &str) -> Result<Side, LineFault> {
     match word {
-        "left" => Some(Side::Left),
-        "right" => Some(Side::Right),
-        _ => None,
+        "left" => Ok(Side::Left),
+        "right" => Ok(Side::Right),
+        _ => Err(LineFault::Bad),
     }
 }
 
-fn pile(words: &[&str]) -> Option<Shape> {
+fn pile(words: &[&str]) -> Result<Shape, LineFault> {
     match words {
-        ["battery", origin] => Some(Shape::Battery(byte(origin)?)),
-        ["bench", name] => Some(Shape::Bench(named(name)?)),
-        ["mirror"] => Some(Shape::Mirror),
-        ["cache", name] => Some(Shape::Cache(named(name)?)),
-        ["cache-mirror"] => Some(Shape::CacheMirror),
-        ["mirror-cache"] => Some(Shape::MirrorCache),
-        _ => None,
+        ["battery", origin] => Ok(Shape::Battery(number(origin)?)),
+        ["bench", name] => Ok(Shape::Bench(side_of(name)?)),
+        ["mirror"] => Ok(Shape::Mirror),
+        ["cache", name] => Ok(Shape::Cache(side_of(name)?)),
+        ["cache-mirror"] => Ok(Shape::CacheMirror),
+        ["mirror-cache"] => Ok(Shape::MirrorCache),
+        _ => Err(LineFault::Bad),
     }
 }
 
 // What is to be done to a card, from the words without the card's name.
-fn card_command(
-    heap: Global,
-    verb: &str,
-    rest: &[&str],
-) -> Result<Option<CardCommand>, AllocError> {
+fn card_command(heap: Global, verb: &str, rest: &[&str]) -> Result<CardCommand, LineFault> {
     match (verb, rest) {
-        ("card", [sectors]) => Ok(match size_to(sectors, CARD_MOST) {
-            Some(n) => Some(CardCommand::Blank(n)),
-            None => None,
-        }),
-        ("poke", [sector, hex]) => Ok(match (sector_number(sector), bytes(heap, hex)?) {
-            (Some(n), Some(b)) => Some(CardCommand::Poke(n, b)),
-            _ => None,
-        }),
-        ("spoil", [sector]) => Ok(match sector_number(sector) {
-            Some(n) => Some(CardCommand::Spoil(n)),
-            None => None,
-        }),
-        ("plan", [list]) => Ok(match codes(heap, list)? {
-            Some(c) => Some(CardCommand::Plan(c)),
-            None => None,
-        }),
-        ("origin", [origin]) => Ok(match byte(origin) {
-            Some(b) => Some(CardCommand::Origin(b)),
-            None => None,
-        }),
-        ("show", [sector]) => Ok(match sector_number(sector) {
-            Some(n) => Some(CardCommand::Show(n)),
-            None => None,
-        }),
-        ("dump", []) => Ok(Some(CardCommand::Dump)),
-        _ => Ok(None),
+        ("card", [sectors]) => Ok(CardCommand::Blank(size_to(sectors, CARD_MOST)?)),
+        ("poke", [sector, hex]) => Ok(CardCommand::Poke(number(sector)?, bytes(heap, hex)?)),
+        ("spoil", [sector]) => Ok(CardCommand::Spoil(number(sector)?)),
+        ("plan", [list]) => Ok(CardCommand::Plan(codes(heap, list)?)),
+        ("origin", [origin]) => Ok(CardCommand::Origin(number(origin)?)),
+        ("show", [sector]) => Ok(CardCommand::Show(number(sector)?)),
+        ("dump", []) => Ok(CardCommand::Dump),
+        _ => Err(LineFault::Bad),
     }
 }
 
-fn device_command(heap: Global, words: &[&str]) -> Result<Option<DeviceCommand>, AllocError> {
+// What is to be done while a pile is in use, or to get there and back.
+fn pile_command(heap: Global, words: &[&str]) -> Result<Command, LineFault> {
     match words {
-        ["count"] => Ok(Some(DeviceCommand::Count)),
-        ["read", sector, length] => Ok(match (sector_number(sector), size_to(length, READ_MOST)) {
-            (Some(s), Some(n)) => Some(DeviceCommand::Read(s, n)),
-            _ => None,
-        }),
-        ["write", sector, hex] => Ok(match (sector_number(sector), bytes(heap, hex)?) {
-            (Some(s), Some(b)) => Some(DeviceCommand::Write(s, b)),
-            _ => None,
-        }),
-        ["barrier"] => Ok(Some(DeviceCommand::Barrier)),
-        ["restart"] => Ok(Some(DeviceCommand::Restart)),
-        _ => Ok(None),
+        ["use", rest @ ..] => Ok(Command::Use(pile(rest)?)),
+        ["end"] => Ok(Command::End),
+        ["format"] => Ok(Command::Store(StoreCommand::Format)),
+        ["open"] => Ok(Command::Store(StoreCommand::Open)),
+        ["close"] => Ok(Command::Store(StoreCommand::Close)),
+        _ => Ok(Command::Device(device_command(heap, words)?)),
     }
 }
 
-fn store_command(words: &[&str]) -> Option<StoreCommand> {
+fn device_command(heap: Global, words: &[&str]) -> Result<DeviceCommand, LineFault> {
     match words {
-        ["format"] => Some(StoreCommand::Format),
-        ["open"] => Some(StoreCommand::Open),
-        ["close"] => Some(StoreCommand::Close),
-        _ => None,
-    }
-}
-
-fn whole(heap: Global, words: &[&str]) -> Result<Option<Command>, AllocError> {
-    if let [verb, name, rest @ ..] = words {
-        if let Some(side) = named(name) {
-            if let Some(c) = card_command(heap, verb, rest)? {
-                return Ok(Some(Command::Card(side, c)));
-            }
+        ["count"] => Ok(DeviceCommand::Count),
+        ["read", sector, length] => {
+            let sector = number(sector)?;
+            let buffer = vec![in heap; 0u8; size_to(length, READ_MOST)?]?;
+            Ok(DeviceCommand::Read(sector, buffer))
         }
+        ["write", sector, hex] => Ok(DeviceCommand::Write(number(sector)?, bytes(heap, hex)?)),
+        ["barrier"] => Ok(DeviceCommand::Barrier),
+        ["restart"] => Ok(DeviceCommand::Restart),
+        _ => Err(LineFault::Bad),
     }
-    if let ["use", rest @ ..] = words {
-        return Ok(match pile(rest) {
-            Some(shape) => Some(Command::Use(shape)),
-            None => None,
-        });
-    }
-    if let ["end"] = words {
-        return Ok(Some(Command::End));
-    }
-    if let Some(c) = store_command(words) {
-        return Ok(Some(Command::Store(c)));
-    }
-    Ok(match device_command(heap, words)? {
-        Some(c) => Some(Command::Device(c)),
-        None => None,
-    })
 }
 
-// What a line says. Bytes that are no text are no command.
-pub fn parse(heap: Global, line: &[u8]) -> Result<Line, AllocError> {
-    if line.is_empty() || line[0] == b'#' {
-        return Ok(Line::Empty);
+// What a line says; none where it is empty or a remark. Bytes that are no text are no command.
+pub fn parse(heap: Global, line: &[u8]) -> Result<Option<Command>, LineFault> {
+    if let [] | [b'#', ..] = line {
+        return Ok(None);
     }
-    let Ok(text) = std::str::from_utf8(line) else {
-        return Ok(Line::Bad);
-    };
+    let text = std::str::from_utf8(line).map_err(|_| LineFault::Bad)?;
     let words: Vec<&str> = text.split(' ').collect(heap)?;
-    Ok(match whole(heap, words.as_slice())? {
-        Some(c) => Line::Do(c),
-        None => Line::Bad,
-    })
+    if let [verb, name, rest @ ..] = words.as_slice()
+        && let Ok(side) = side_of(name)
+    {
+        return Ok(Some(Command::Card(side, card_command(heap, verb, rest)?)));
+    }
+    Ok(Some(pile_command(heap, words.as_slice())?))
 }

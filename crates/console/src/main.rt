@@ -3,175 +3,79 @@
 #![tactic(auto)]
 
 use battery::Battery;
-use bench::Bench;
 use cache::Cache;
 use device::{Device, DeviceFault};
 use mirror::Mirror;
-use std::io::{BufReader, Stdin};
 
+mod answer;
 mod card;
 mod command;
+mod desk;
 mod serve;
 mod words;
 
-use card::Card;
-use command::{Command, Line, Shape, Side, parse};
-use serve::{next_line, refusal, serve};
+use answer::Answer;
+use card::Cards;
+use command::{Command, Shape};
+use desk::Desk;
+use serve::put_in_use;
+use words::LineFault;
 
 // How many sectors a card has at first.
 const CARD_SECTORS: usize = 224;
 
-// Says why there is no pile.
-fn refuse(rt: &HostRuntime, fault: DeviceFault) -> anyhow::Result<()> {
-    let text = refusal(rt.alloc(), fault)?;
-    println!(rt; "{text}")?;
-    Ok(())
-}
-
-// A pile over one card.
-fn use_card(
-    rt: &HostRuntime,
-    input: &mut BufReader<Stdin>,
-    cached: bool,
-    card: &mut Card,
+// A cache over any device, and below a mirror of two: where the device is named, with the bytes that it
+// borrows, a cache gets no proof.
+fn use_cache<D: Device + Drop>(
+    desk: &mut Desk,
+    device: Result<D, DeviceFault>,
 ) -> anyhow::Result<()> {
-    match Bench::new(
-        card.bytes.as_mut_slice(),
-        card.flags.as_mut_slice(),
-        card.plan.as_slice(),
-        card.origin,
-    ) {
-        Ok(device) if cached => serve(rt, input, Cache::new(device)),
-        Ok(device) => serve(rt, input, device),
-        Err(fault) => refuse(rt, fault),
-    }
+    put_in_use(desk, device.map(Cache::new))
 }
 
-// How a mirror of the two cards is made.
-#[derive(Clone, Copy)]
-enum Pair {
-    Plain,
-    CacheOver,
-    CachesUnder,
-}
-
-// Generic, since a mirror of caches over lent bytes gets its proof only at any two devices.
-fn serve_pair<L: Device + Drop, R: Device + Drop>(
-    rt: &HostRuntime,
-    input: &mut BufReader<Stdin>,
-    pair: Pair,
-    left: L,
-    right: R,
+fn use_caches<L: Device + Drop, R: Device + Drop>(
+    desk: &mut Desk,
+    devices: Result<(L, R), DeviceFault>,
 ) -> anyhow::Result<()> {
-    match pair {
-        Pair::Plain => serve(rt, input, Mirror::new(left, right)),
-        Pair::CacheOver => serve(rt, input, Cache::new(Mirror::new(left, right))),
-        Pair::CachesUnder => serve(rt, input, Mirror::new(Cache::new(left), Cache::new(right))),
-    }
+    put_in_use(
+        desk,
+        devices.map(|(l, r)| Mirror::new(Cache::new(l), Cache::new(r))),
+    )
 }
 
-// A pile over both cards. Where both are refused, the left one's refusal answers.
-fn use_cards(
-    rt: &HostRuntime,
-    input: &mut BufReader<Stdin>,
-    pair: Pair,
-    left: &mut Card,
-    right: &mut Card,
-) -> anyhow::Result<()> {
-    let l = Bench::new(
-        left.bytes.as_mut_slice(),
-        left.flags.as_mut_slice(),
-        left.plan.as_slice(),
-        left.origin,
-    );
-    let r = Bench::new(
-        right.bytes.as_mut_slice(),
-        right.flags.as_mut_slice(),
-        right.plan.as_slice(),
-        right.origin,
-    );
-    match (l, r) {
-        (Ok(l), Ok(r)) => serve_pair(rt, input, pair, l, r),
-        (Err(fault), _) => refuse(rt, fault),
-        (_, Err(fault)) => refuse(rt, fault),
-    }
-}
-
-fn put_in_use(
-    rt: &HostRuntime,
-    input: &mut BufReader<Stdin>,
-    shape: Shape,
-    left: &mut Card,
-    right: &mut Card,
-) -> anyhow::Result<()> {
+// Puts a pile together from the cards, and serves it.
+fn use_shape(desk: &mut Desk, cards: &mut Cards, shape: Shape) -> anyhow::Result<()> {
     match shape {
-        Shape::Battery(origin) => serve(rt, input, Battery::new(origin)),
-        Shape::Bench(Side::Left) => use_card(rt, input, false, left),
-        Shape::Bench(Side::Right) => use_card(rt, input, false, right),
-        Shape::Cache(Side::Left) => use_card(rt, input, true, left),
-        Shape::Cache(Side::Right) => use_card(rt, input, true, right),
-        Shape::Mirror => use_cards(rt, input, Pair::Plain, left, right),
-        Shape::CacheMirror => use_cards(rt, input, Pair::CacheOver, left, right),
-        Shape::MirrorCache => use_cards(rt, input, Pair::CachesUnder, left, right),
+        Shape::Battery(origin) => put_in_use(desk, Ok(Battery::new(origin))),
+        Shape::Bench(side) => put_in_use(desk, cards.device(side)),
+        Shape::Cache(side) => use_cache(desk, cards.device(side)),
+        Shape::Mirror => put_in_use(desk, cards.devices().map(|(l, r)| Mirror::new(l, r))),
+        Shape::CacheMirror => use_cache(desk, cards.devices().map(|(l, r)| Mirror::new(l, r))),
+        Shape::MirrorCache => use_caches(desk, cards.devices()),
     }
 }
 
-// The two cards, and what stands above them.
-#[derive(Drop)]
-struct Console {
-    left: Card,
-    right: Card,
-}
-
-impl Console {
-    // Does what a command says while no pile is in use.
-    fn obey(
-        &mut self,
-        rt: &HostRuntime,
-        input: &mut BufReader<Stdin>,
-        command: Command,
-    ) -> anyhow::Result<()> {
-        match command {
-            Command::Card(Side::Left, command) => self.left.obey(rt, command),
-            Command::Card(Side::Right, command) => self.right.obey(rt, command),
-            Command::Use(shape) => put_in_use(rt, input, shape, &mut self.left, &mut self.right),
-            Command::End => not_now(rt),
-            Command::Device(_command) => not_now(rt),
-            Command::Store(_command) => not_now(rt),
-        }
+// Does what a command says while no pile is in use.
+fn obey(desk: &mut Desk, cards: &mut Cards, command: Command) -> anyhow::Result<()> {
+    match command {
+        Command::Card(side, command) => match cards.obey(desk.heap(), side, command) {
+            Ok(answer) => desk.say(&answer),
+            Err(LineFault::Bad) => desk.say(&Answer::BadLine),
+            Err(fault) => Err(fault.into()),
+        },
+        Command::Use(shape) => use_shape(desk, cards, shape),
+        Command::End | Command::Device(_) | Command::Store(_) => desk.say(&Answer::NotNow),
     }
-
-    fn step(
-        &mut self,
-        rt: &HostRuntime,
-        input: &mut BufReader<Stdin>,
-        line: &[u8],
-    ) -> anyhow::Result<()> {
-        match parse(rt.alloc(), line)? {
-            Line::Empty => {}
-            Line::Bad => println!(rt; "bad line")?,
-            Line::Do(command) => self.obey(rt, input, command)?,
-        }
-        Ok(())
-    }
-}
-
-fn not_now(rt: &HostRuntime) -> anyhow::Result<()> {
-    println!(rt; "not now")?;
-    Ok(())
 }
 
 fn main(rt: HostRuntime) -> anyhow::Result<()> {
-    let mut console = Console {
-        left: Card::new(rt.alloc(), CARD_SECTORS, 1)?,
-        right: Card::new(rt.alloc(), CARD_SECTORS, 2)?,
-    };
-    let mut input = BufReader::new(rt.alloc(), rt.stdin())?;
+    let mut desk = Desk::new(&rt);
+    let mut cards = Cards::new(rt.alloc(), CARD_SECTORS)?;
     for _ in 0..u64::MAX {
-        let Some(line) = next_line(rt.alloc(), &mut input)? else {
+        let Some(command) = desk.next_command()? else {
             return Ok(());
         };
-        console.step(&rt, &mut input, line.as_slice())?;
+        obey(&mut desk, &mut cards, command)?;
     }
     Ok(())
 }

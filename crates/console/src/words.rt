@@ -1,101 +1,79 @@
 // The words of a command: numbers in decimal, bytes in hex, a list of codes.
+use hex::FromHexError;
 use std::alloc::{AllocError, Global};
+use std::error::Error;
+use std::fmt;
+use std::str::FromStr;
 
-// A decimal number that a u64 holds: digits alone, at least one.
-fn number(word: &str) -> Option<u64> {
-    let digits = word.as_bytes();
-    if digits.is_empty() {
-        return None;
-    }
-    let mut value = 0u64;
-    for digit in digits {
-        let (b'0'..=b'9') = *digit else {
-            return None;
-        };
-        value = value
-            .checked_mul(10)?
-            .checked_add(u64::from(*digit - b'0'))?;
-    }
-    Some(value)
+// Why a line is no command.
+#[derive(Clone, Copy, Debug)]
+pub enum LineFault {
+    // It says nothing that the console knows, or its words don't parse.
+    Bad,
+    OutOfMemory,
 }
 
-// The number of a sector. Every u64 is a usize here.
-pub fn sector_number(word: &str) -> Option<usize> {
-    match usize::try_from(number(word)?) {
-        Ok(n) => Some(n),
-        Err(_) => None,
+impl fmt::Display for LineFault {
+    fn fmt<W: fmt::Write>(&self, f: &mut fmt::Formatter<W>) -> fmt::Result {
+        match self {
+            LineFault::Bad => f.write_str("bad line"),
+            LineFault::OutOfMemory => f.write_str("out of memory"),
+        }
     }
+}
+
+impl Error for LineFault {}
+
+impl From<AllocError> for LineFault {
+    fn from(_fault: AllocError) -> Self {
+        LineFault::OutOfMemory
+    }
+}
+
+impl From<FromHexError> for LineFault {
+    fn from(fault: FromHexError) -> Self {
+        match fault {
+            FromHexError::OutOfMemory => LineFault::OutOfMemory,
+            _ => LineFault::Bad,
+        }
+    }
+}
+
+// A decimal number that fits its type: digits alone, where the library's parse would take a sign.
+pub fn number<N: FromStr>(word: &str) -> Result<N, LineFault>
+where
+    N::Err: Drop,
+{
+    if word.starts_with('+') {
+        return Err(LineFault::Bad);
+    }
+    word.parse().map_err(|_| LineFault::Bad)
 }
 
 // A size up to `most`.
-pub fn size_to(word: &str, most: usize) -> Option<usize> {
-    let n = sector_number(word)?;
-    if n <= most { Some(n) } else { None }
-}
-
-// A number that a byte holds.
-pub fn byte(word: &str) -> Option<u8> {
-    let value = number(word)?;
-    match u8::try_from(value) {
-        Ok(b) => Some(b),
-        Err(_) => None,
+pub fn size_to(word: &str, most: usize) -> Result<usize, LineFault> {
+    let size = number(word)?;
+    if size > most {
+        return Err(LineFault::Bad);
     }
+    Ok(size)
 }
 
-// The value of a hex digit, in lower case.
-fn nibble(digit: u8) -> Option<u8> {
-    match digit {
-        b'0'..=b'9' => Some(digit - b'0'),
-        b'a'..=b'f' => Some(digit - b'a' + 10),
-        _ => None,
-    }
-}
-
-// Bytes, two hex digits each; `-` stands for none. An inner `None` is a word that doesn't parse.
-pub fn bytes(heap: Global, word: &str) -> Result<Option<Vec<u8>>, AllocError> {
-    let mut out = Vec::new(heap);
+// Bytes, two hex digits each; `-` stands for none. The library's decode would take upper case too.
+pub fn bytes(heap: Global, word: &str) -> Result<Vec<u8>, LineFault> {
     if word == "-" {
-        return Ok(Some(out));
+        return Ok(Vec::new(heap));
     }
-    let digits = word.as_bytes();
-    if digits.is_empty() || digits.len() % 2 != 0 {
-        return Ok(None);
+    if word.is_empty() || word.bytes().any(|digit| digit.is_ascii_uppercase()) {
+        return Err(LineFault::Bad);
     }
-    for pair in digits.chunks(2) {
-        let [high, low] = pair else {
-            return Ok(None);
-        };
-        match (nibble(*high), nibble(*low)) {
-            (Some(h), Some(l)) => out.push((h & 15) * 16 + (l & 15))?,
-            _ => return Ok(None),
-        }
-    }
-    Ok(Some(out))
+    Ok(hex::decode(heap, word)?)
 }
 
 // The codes of a power plan, with commas between; `-` stands for none.
-pub fn codes(heap: Global, word: &str) -> Result<Option<Vec<u8>>, AllocError> {
-    let mut out = Vec::new(heap);
+pub fn codes(heap: Global, word: &str) -> Result<Vec<u8>, LineFault> {
     if word == "-" {
-        return Ok(Some(out));
+        return Ok(Vec::new(heap));
     }
-    for code in word.split(',') {
-        match byte(code) {
-            Some(b) => out.push(b)?,
-            None => return Ok(None),
-        }
-    }
-    Ok(Some(out))
-}
-
-// Bytes as the console writes them.
-pub fn hex(heap: Global, bytes: &[u8]) -> Result<String, AllocError> {
-    let mut text = String::new(heap);
-    if bytes.is_empty() {
-        text.push_str("-")?;
-    }
-    for b in bytes {
-        text.push_str(format!(in heap; "{b:02x}")?.as_str())?;
-    }
-    Ok(text)
+    word.split(',').map(number).try_collect(heap)
 }

@@ -18,68 +18,54 @@ pub enum Call {
     Restart,
 }
 
-// What a call answers; a sector that is full of one byte is told by that byte.
+// What a call that is not refused answers; a sector that is full of one byte is told by that byte.
 #[derive(Clone, Copy, PartialEq, Eq, Debug)]
 pub enum Reply {
     Done,
     Sectors(usize),
     Full(u8),
     Mixed,
-    No(DeviceFault),
 }
 
 // Longer than any sector, for buffers of the wrong length.
 const ROOM: usize = 160;
 
-fn done(answer: Result<(), DeviceFault>) -> Reply {
-    match answer {
-        Ok(()) => Reply::Done,
-        Err(fault) => Reply::No(fault),
-    }
-}
-
-// What a buffer holds, where it was full of zeros before the call.
+// What a buffer holds.
 fn content(bytes: &[u8]) -> Reply {
-    let Some(first) = bytes.first().copied() else {
-        return Reply::Mixed;
-    };
-    for b in bytes {
-        if *b != first {
-            return Reply::Mixed;
-        }
-    }
-    Reply::Full(first)
-}
-
-fn read_into<D: Device>(device: &mut D, sector: usize, buffer: &mut [u8]) -> Reply {
-    match device.read(sector, buffer) {
-        Ok(()) => content(buffer),
-        Err(fault) => Reply::No(fault),
+    match bytes.split_first() {
+        Some((first, rest)) if rest.iter().all(|b| *b == *first) => Reply::Full(*first),
+        _ => Reply::Mixed,
     }
 }
 
-fn read<D: Device>(device: &mut D, sector: usize, length: usize) -> Reply {
-    let mut buffer = [0u8; ROOM];
-    let end = length.min(ROOM);
-    read_into(device, sector, &mut buffer[0..end])
+fn read<D: Device>(device: &mut D, sector: usize, length: usize) -> Result<Reply, DeviceFault> {
+    let mut room = [0u8; ROOM];
+    let buffer = &mut room[..length.min(ROOM)];
+    device.read(sector, buffer)?;
+    Ok(content(buffer))
 }
 
-fn write<D: Device>(device: &mut D, sector: usize, byte: u8, length: usize) -> Reply {
-    let buffer = [byte; ROOM];
-    let end = length.min(ROOM);
-    done(device.write(sector, &buffer[0..end]))
+fn write<D: Device>(
+    device: &mut D,
+    sector: usize,
+    byte: u8,
+    length: usize,
+) -> Result<Reply, DeviceFault> {
+    let room = [byte; ROOM];
+    device.write(sector, &room[..length.min(ROOM)])?;
+    Ok(Reply::Done)
 }
 
 // Makes one call of the device.
-pub(crate) fn play<D: Device>(device: &mut D, call: Call) -> Reply {
+pub(crate) fn play<D: Device>(device: &mut D, call: Call) -> Result<Reply, DeviceFault> {
     match call {
-        Call::Count => Reply::Sectors(device.sectors()),
+        Call::Count => Ok(Reply::Sectors(device.sectors())),
         Call::Read(sector) => read(device, sector, SECTOR),
         Call::ReadInto(sector, length) => read(device, sector, length),
         Call::Write(sector, byte) => write(device, sector, byte, SECTOR),
         Call::WriteOnly(sector, length) => write(device, sector, 255, length),
-        Call::Barrier => done(device.barrier()),
-        Call::Restart => done(device.restart()),
+        Call::Barrier => device.barrier().map(|()| Reply::Done),
+        Call::Restart => device.restart().map(|()| Reply::Done),
     }
 }
 

@@ -1,11 +1,12 @@
 // A table for what a good sector is, and one for each thing that a store answers.
 use super::*;
 use battery::Battery;
-use bench::Bench;
+use cards::Card;
+use device::SECTOR;
 use record::{Head, Record};
-use std::process::Abort;
+use std::alloc::Global;
 use std::test::Fail;
-use store::{Store, StoreFault};
+use transactions::{Store, StoreFault};
 
 // Numbers put into a sector: a serial, a low and an ordinal; a kind, a page, an offset and a length; or
 // the byte after those.
@@ -17,7 +18,7 @@ enum Edit {
 }
 
 // Where the numbers stand, each with its lowest byte first.
-fn put(sector: &mut [u8; 128], edit: Edit) {
+fn put(sector: &mut [u8; SECTOR], edit: Edit) {
     match edit {
         Edit::Head(serial, low, ordinal) => {
             sector[0..8].copy_from_slice(&serial.to_le_bytes());
@@ -48,8 +49,8 @@ const BASE: Record = Record::Part {
 };
 
 // The base with this edit.
-fn edited(edit: Edit) -> [u8; 128] {
-    let mut sector = [0u8; 128];
+fn edited(edit: Edit) -> [u8; SECTOR] {
+    let mut sector = [0u8; SECTOR];
     let _ = record::write(BASE, &mut sector);
     put(&mut sector, edit);
     sector
@@ -118,63 +119,43 @@ fn good_sectors(rt: HostRuntime) {
     }
 }
 
-// What a store answers: done, the number of transactions and of strays, or a refusal.
-#[derive(Clone, Copy, PartialEq, Eq, Debug)]
-enum Reply {
-    Done,
-    Found(u64, usize),
-    Size(usize),
-    No(u8),
-}
-
-fn refusal(fault: StoreFault) -> Reply {
-    match fault {
-        StoreFault::Size(count) => Reply::Size(count),
-        fault => Reply::No(fault.number()),
-    }
-}
-
-fn found(answer: Result<(u64, usize), StoreFault>) -> Reply {
-    match answer {
-        Ok((ordinal, strays)) => Reply::Found(ordinal, strays),
-        Err(fault) => refusal(fault),
-    }
-}
+// What an opening answers: the number of transactions and of strays, or a refusal.
+type Opening = Result<(u64, usize), StoreFault>;
 
 // What a format of a device answers, and an opening of it after that.
-fn formats<D: Device + Drop>(device: D) -> (Reply, Reply) {
-    let (store, answer) = Store::format(device);
-    let first = match answer {
-        Ok(()) => Reply::Done,
-        Err(fault) => refusal(fault),
-    };
-    let (store, answer) = Store::open(store.close());
+fn formats<D: Device + Drop>(device: D) -> (Result<(), StoreFault>, Opening) {
+    let (store, formatted) = Store::format(device);
+    let (store, opened) = Store::open(store.close());
     let _ = store.close();
-    (first, found(answer))
+    (formatted, opened)
 }
 
-fn formats_card<'a>(
-    bytes: &'a mut [u8],
-    flags: &'a mut [u8],
-    plan: &'a [u8],
-) -> Result<(Reply, Reply), DeviceFault> {
-    Ok(formats(Bench::new(bytes, flags, plan, 1)?))
+// The same on a card of so many sectors that are full of ones and spoiled.
+fn formats_card(heap: Global, sectors: usize) -> Result<(Result<(), StoreFault>, Opening), Fail> {
+    let mut card = Card::blank(heap, sectors, 1)?;
+    card.sectors = vec![in heap; [255u8; SECTOR]; sectors]?;
+    card.flags = vec![in heap; 1u8; sectors]?;
+    Ok(formats(card.device()?))
 }
 
 #[test]
 fn sizes(rt: HostRuntime) -> Result<(), Fail> {
     let table = [
-        (223usize, (Reply::Size(223), Reply::Size(223))),
-        (224, (Reply::Done, Reply::Found(0, 0))),
-        (1088, (Reply::Done, Reply::Found(0, 0))),
-        (1089, (Reply::Size(1089), Reply::Size(1089))),
+        (
+            223usize,
+            (Err(StoreFault::Size(223)), Err(StoreFault::Size(223))),
+        ),
+        (224, (Ok(()), Ok((0, 0)))),
+        (1088, (Ok(()), Ok((0, 0)))),
+        (
+            1089,
+            (Err(StoreFault::Size(1089)), Err(StoreFault::Size(1089))),
+        ),
     ];
-    for (sectors, replies) in table {
-        let mut bytes = vec![in rt.alloc(); 255u8; sectors * 128]?;
-        let mut flags = vec![in rt.alloc(); 1u8; sectors]?;
-        assert_eq!(rt; formats_card(&mut bytes, &mut flags, &[])?, replies);
+    for (sectors, answers) in table {
+        assert_eq!(rt; formats_card(rt.alloc(), sectors)?, answers);
     }
-    assert_eq!(rt; formats(Battery::new(7)), (Reply::Done, Reply::Found(0, 0)));
+    assert_eq!(rt; formats(Battery::new(7)), (Ok(()), Ok((0, 0))));
     Ok(())
 }
 
@@ -204,7 +185,7 @@ fn lay<D: Device>(
         Kind::More => part(head, false),
         Kind::Last => part(head, true),
     };
-    let mut sector = [0u8; 128];
+    let mut sector = [0u8; SECTOR];
     let _ = record::write(record, &mut sector);
     device.write((serial as usize).checked_rem(places).unwrap_or(0), &sector)
 }
@@ -219,93 +200,83 @@ fn part(head: Head, last: bool) -> Record<'static> {
     }
 }
 
-// What two openings, one after the other, answer of a card that has these records.
-fn opens<'a>(
-    bytes: &'a mut [u8],
-    flags: &'a mut [u8],
-    plan: &'a [u8],
+// What two openings, one after the other, answer of a device where these records are laid first.
+fn opens<D: Device + Drop>(
+    mut device: D,
     records: &[(u64, u64, Kind)],
-) -> Result<(Reply, Reply), DeviceFault> {
-    let mut device = Bench::new(bytes, flags, plan, 1)?;
+) -> Result<(Opening, Opening), DeviceFault> {
     for (serial, ordinal, kind) in records {
         lay(&mut device, 160, *serial, *ordinal, *kind)?;
     }
     let (store, first) = Store::open(device);
     let (store, second) = Store::open(store.close());
     let _ = store.close();
-    Ok((found(first), found(second)))
+    Ok((first, second))
 }
 
 // The same on a card of zeros where one sector is spoiled.
-fn found_on_card(
-    rt: &impl Abort,
+fn opens_card(
+    heap: Global,
     spoiled: usize,
     records: &[(u64, u64, Kind)],
-) -> Result<(Reply, Reply), Fail> {
-    let mut bytes = [0u8; 28672];
-    let mut flags = [0u8; 224];
-    assert!(rt; spoiled < 224);
-    flags[spoiled] = 1;
-    Ok(opens(&mut bytes, &mut flags, &[], records)?)
+) -> Result<(Opening, Opening), Fail> {
+    let mut card = Card::blank(heap, 224, 1)?;
+    *card.flags.get_mut(spoiled).ok_or("no such sector")? = 1;
+    Ok(opens(card.device()?, records)?)
 }
 
 #[test]
 fn openings(rt: HostRuntime) -> Result<(), Fail> {
     // The transaction at serial 4 is behind a gap, so it is no part of the log.
     assert_eq!(rt;
-        found_on_card(
-            &rt,
+        opens_card(
+            rt.alloc(),
             3,
             &[(1, 0, Kind::Mark), (2, 1, Kind::Last), (4, 2, Kind::Last)],
         )?,
-        (Reply::Found(1, 1), Reply::Found(1, 0))
+        (Ok((1, 1)), Ok((1, 0)))
     );
     // A transaction whose last part was not written is none.
     assert_eq!(rt;
-        found_on_card(
-            &rt,
+        opens_card(
+            rt.alloc(),
             9,
             &[(1, 0, Kind::Mark), (2, 0, Kind::More), (3, 0, Kind::More)],
         )?,
-        (Reply::Found(0, 2), Reply::Found(0, 0))
+        (Ok((0, 2)), Ok((0, 0)))
     );
     // No record at all, no mark where the log begins, and the home of page 5 lost with nothing to cover it.
-    assert_eq!(rt; found_on_card(&rt, 1, &[])?, (Reply::No(6), Reply::No(6)));
     assert_eq!(rt;
-        found_on_card(&rt, 3, &[(1, 0, Kind::Last)])?,
-        (Reply::No(7), Reply::No(7))
+        opens_card(rt.alloc(), 1, &[])?,
+        (Err(StoreFault::NoLog), Err(StoreFault::NoLog))
     );
     assert_eq!(rt;
-        found_on_card(&rt, 165, &[(1, 0, Kind::Mark)])?,
-        (Reply::No(8), Reply::No(8))
+        opens_card(rt.alloc(), 3, &[(1, 0, Kind::Last)])?,
+        (Err(StoreFault::NoMark(1)), Err(StoreFault::NoMark(1)))
+    );
+    assert_eq!(rt;
+        opens_card(rt.alloc(), 165, &[(1, 0, Kind::Mark)])?,
+        (Err(StoreFault::Uncovered(5)), Err(StoreFault::Uncovered(5)))
     );
     Ok(())
 }
 
 // What an opening answers, and how many sectors it reads, where a log of 1,024 sectors has a mark and 1,023
 // transactions.
-fn reads<'a>(
-    bytes: &'a mut [u8],
-    flags: &'a mut [u8],
-    plan: &'a [u8],
-) -> Result<(Reply, usize), DeviceFault> {
-    let mut device = Counted::new(Bench::new(bytes, flags, plan, 1)?);
+fn reads<D: Device + Drop>(device: D) -> Result<(Opening, usize), DeviceFault> {
+    let mut device = Counted::new(device);
     lay(&mut device, 1024, 1, 0, Kind::Mark)?;
     for serial in 2..1025u64 {
         lay(&mut device, 1024, serial, serial - 1, Kind::Last)?;
     }
     let (store, answer) = Store::open(device);
-    Ok((found(answer), store.close().reads))
+    Ok((answer, store.close().reads))
 }
 
 // The largest log is opened by 2,112 reads: each of its 1,024 sectors twice, and each of 64 homes once.
 #[test]
 fn reads_of_an_opening(rt: HostRuntime) -> Result<(), Fail> {
-    let mut bytes = vec![in rt.alloc(); 0u8; 1088 * 128]?;
-    let mut flags = vec![in rt.alloc(); 0u8; 1088]?;
-    assert_eq!(rt;
-        reads(&mut bytes, &mut flags, &[])?,
-        (Reply::Found(1023, 0), 2 * 1024 + 64)
-    );
+    let mut card = Card::blank(rt.alloc(), 1088, 1)?;
+    assert_eq!(rt; reads(card.device()?)?, (Ok((1023, 0)), 2 * 1024 + 64));
     Ok(())
 }

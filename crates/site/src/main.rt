@@ -2,28 +2,13 @@
 
 #![tactic(auto)]
 
-use bench::Bench;
 use cache::Cache;
+use cards::Card;
 use device::{Device, DeviceFault, SECTOR};
 use mirror::Mirror;
+use std::fmt;
 
 mod recovery;
-
-// A card's bytes and flags, as a controller's slots hold them.
-#[derive(Drop)]
-pub struct Card {
-    pub bytes: Vec<u8>,
-    pub flags: Vec<u8>,
-}
-
-impl Card {
-    pub fn blank(rt: &HostRuntime, sectors: usize) -> anyhow::Result<Card> {
-        Ok(Card {
-            bytes: vec![in rt.alloc(); 0u8; sectors.saturating_mul(SECTOR)]?,
-            flags: vec![in rt.alloc(); 0u8; sectors]?,
-        })
-    }
-}
 
 // Where the story keeps its line of text, and how many sectors a card has.
 const PLACE: usize = 5;
@@ -31,8 +16,8 @@ const PLACE: usize = 5;
 pub const SECTORS: usize = 224;
 
 // A line of text in a sector, with zeros after it.
-fn sector_of(text: &[u8]) -> [u8; 128] {
-    let mut sector = [0u8; 128];
+fn sector_of(text: &[u8]) -> [u8; SECTOR] {
+    let mut sector = [0u8; SECTOR];
     for (place, b) in sector.iter_mut().zip(text) {
         *place = *b;
     }
@@ -41,22 +26,37 @@ fn sector_of(text: &[u8]) -> [u8; 128] {
 
 // The text at the front of a sector, up to its first zero.
 fn text_of(sector: &[u8]) -> &[u8] {
-    for (i, b) in sector.iter().enumerate() {
-        if *b == 0 {
-            return &sector[0..i];
-        }
+    match sector.iter().position(|b| *b == 0) {
+        Some(end) => &sector[..end],
+        None => sector,
     }
-    sector
 }
 
-pub fn say_fault(rt: &HostRuntime, fault: DeviceFault) -> anyhow::Result<()> {
-    match fault {
-        DeviceFault::Power(0) => println!(rt; "  the cards are off")?,
-        DeviceFault::Power(1) => println!(rt; "  power failed while the left card was written")?,
-        DeviceFault::Power(_) => println!(rt; "  power failed while the right card was written")?,
-        DeviceFault::Spoiled(_, _) => println!(rt; "  the sector can't be read on either card")?,
-        DeviceFault::Misaddressed(_, _) => println!(rt; "  there is no such sector")?,
-        DeviceFault::Unfit => println!(rt; "  these cards don't fit the controller")?,
+// A device's refusal as the story tells it.
+#[derive(Clone, Copy)]
+pub struct Refusal(pub DeviceFault);
+
+impl fmt::Display for Refusal {
+    fn fmt<W: fmt::Write>(&self, f: &mut fmt::Formatter<W>) -> fmt::Result {
+        f.write_str(match self.0 {
+            DeviceFault::Power(0) => "the cards are off",
+            DeviceFault::Power(1) => "power failed while the left card was written",
+            DeviceFault::Power(_) => "power failed while the right card was written",
+            DeviceFault::Spoiled(_, _) => "the sector can't be read on either card",
+            DeviceFault::Misaddressed(_, _) => "there is no such sector",
+            DeviceFault::Unfit => "these cards don't fit the controller",
+        })
+    }
+}
+
+// Says what came of what was told last.
+pub fn say<F: fmt::Display + Drop>(
+    rt: &HostRuntime,
+    outcome: Result<&str, F>,
+) -> anyhow::Result<()> {
+    match outcome {
+        Ok(text) => println!(rt; "  {text}")?,
+        Err(refusal) => println!(rt; "  {refusal}")?,
     }
     Ok(())
 }
@@ -70,34 +70,28 @@ fn keep<D: Device>(device: &mut D, text: &[u8]) -> Result<(), DeviceFault> {
 // Tells what became of a line that was to be kept.
 fn tell_keeping<D: Device>(rt: &HostRuntime, device: &mut D, text: &str) -> anyhow::Result<()> {
     println!(rt; "writing \"{text}\" and waiting until both cards hold it")?;
-    match keep(device, text.as_bytes()) {
-        Ok(()) => println!(rt; "  both cards hold it")?,
-        Err(fault) => say_fault(rt, fault)?,
-    }
-    Ok(())
+    let kept = keep(device, text.as_bytes());
+    say(rt, kept.map(|()| "both cards hold it").map_err(Refusal))
 }
 
 // Tells what is read back.
 fn tell_reading<D: Device>(rt: &HostRuntime, device: &mut D) -> anyhow::Result<()> {
-    let mut sector = [0u8; 128];
+    let mut sector = [0u8; SECTOR];
     println!(rt; "reading it back")?;
-    match device.read(PLACE, &mut sector) {
-        Ok(()) => match std::str::from_utf8(text_of(&sector)) {
-            Ok(text) => println!(rt; "  the cards say \"{text}\"")?,
-            Err(_) => println!(rt; "  the cards hold no text")?,
-        },
-        Err(fault) => say_fault(rt, fault)?,
+    if let Err(fault) = device.read(PLACE, &mut sector) {
+        return say(rt, Err(Refusal(fault)));
+    }
+    match std::str::from_utf8(text_of(&sector)) {
+        Ok(text) => println!(rt; "  the cards say \"{text}\"")?,
+        Err(_) => println!(rt; "  the cards hold no text")?,
     }
     Ok(())
 }
 
 fn tell_restart<D: Device>(rt: &HostRuntime, device: &mut D) -> anyhow::Result<()> {
     println!(rt; "power comes back")?;
-    match device.restart() {
-        Ok(()) => println!(rt; "  the cards are on")?,
-        Err(fault) => say_fault(rt, fault)?,
-    }
-    Ok(())
+    let on = device.restart();
+    say(rt, on.map(|()| "the cards are on").map_err(Refusal))
 }
 
 // The story over a pile of devices.
@@ -111,21 +105,11 @@ fn tell<D: Device + Drop>(rt: &HostRuntime, mut device: D) -> anyhow::Result<()>
     tell_reading(rt, &mut device)
 }
 
-// The left card's power fails in its second write and spoils the sector.
-fn fit<'a>(
-    rt: &HostRuntime,
-    left: &'a mut [u8],
-    left_flags: &'a mut [u8],
-    right: &'a mut [u8],
-    right_flags: &'a mut [u8],
-) -> anyhow::Result<()> {
-    match (
-        Bench::new(left, left_flags, &[0, 3], 1),
-        Bench::new(right, right_flags, &[], 2),
-    ) {
+// The story over two cards in their slots.
+fn tell_slots(rt: &HostRuntime, left: &mut Card, right: &mut Card) -> anyhow::Result<()> {
+    match (left.device(), right.device()) {
         (Ok(l), Ok(r)) => tell(rt, Cache::new(Mirror::new(l, r))),
-        (Err(fault), _) => say_fault(rt, fault),
-        (_, Err(fault)) => say_fault(rt, fault),
+        (Err(fault), _) | (_, Err(fault)) => say(rt, Err(Refusal(fault))),
     }
 }
 
@@ -138,16 +122,12 @@ fn tell_card(rt: &HostRuntime, name: &str, card: &Card) -> anyhow::Result<()> {
     Ok(())
 }
 
+// The left card's power fails in its second write and spoils the sector.
 fn tell_pair(rt: &HostRuntime) -> anyhow::Result<()> {
-    let mut left = Card::blank(rt, SECTORS)?;
-    let mut right = Card::blank(rt, SECTORS)?;
-    fit(
-        rt,
-        left.bytes.as_mut_slice(),
-        left.flags.as_mut_slice(),
-        right.bytes.as_mut_slice(),
-        right.flags.as_mut_slice(),
-    )?;
+    let mut left = Card::blank(rt.alloc(), SECTORS, 1)?;
+    let mut right = Card::blank(rt.alloc(), SECTORS, 2)?;
+    left.plan = vec![in rt.alloc(); 0, 3]?;
+    tell_slots(rt, &mut left, &mut right)?;
     tell_card(rt, "left", &left)?;
     tell_card(rt, "right", &right)
 }

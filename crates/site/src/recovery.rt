@@ -1,41 +1,56 @@
 // The second part of the story: a log whose last transaction was cut, and an opening that power cuts too.
-use crate::{Card, SECTORS, say_fault};
-use bench::Bench;
-use device::{Device, DeviceFault};
+use crate::{Refusal, SECTORS, say};
+use cards::Card;
+use device::{Device, DeviceFault, SECTOR};
 use record::{Head, Record};
-use store::{Store, StoreFault};
+use std::fmt;
+use transactions::{Store, StoreFault};
 
-fn say_store_fault(rt: &HostRuntime, fault: StoreFault) -> anyhow::Result<()> {
-    match fault {
-        StoreFault::Device(DeviceFault::Power(_)) => println!(rt; "  power failed")?,
-        StoreFault::Device(fault) => say_fault(rt, fault)?,
-        StoreFault::Size(count) => println!(rt; "  a card of {count} sectors doesn't fit")?,
-        StoreFault::NoLog => println!(rt; "  the card holds no log")?,
-        StoreFault::NoMark(low) => println!(rt;
-            "  the log should begin with a mark at serial {low}, and doesn't"
-        )?,
-        StoreFault::Uncovered(page) => println!(rt; "  page {page} can't be read")?,
+// A store's refusal as the story tells it.
+#[derive(Clone, Copy)]
+struct StoreRefusal(StoreFault);
+
+impl fmt::Display for StoreRefusal {
+    fn fmt<W: fmt::Write>(&self, f: &mut fmt::Formatter<W>) -> fmt::Result {
+        match self.0 {
+            StoreFault::Device(DeviceFault::Power(_)) => f.write_str("power failed"),
+            StoreFault::Device(fault) => Refusal(fault).fmt(f),
+            StoreFault::Size(count) => write!(f, "a card of {count} sectors doesn't fit"),
+            StoreFault::NoLog => f.write_str("the card holds no log"),
+            StoreFault::NoMark(low) => write!(
+                f,
+                "the log should begin with a mark at serial {low}, and doesn't"
+            ),
+            StoreFault::Uncovered(page) => write!(f, "page {page} can't be read"),
+            // No format or opening answers the others.
+            fault => {
+                let number = fault.number();
+                write!(f, "the store refuses, for reason {number}")
+            }
+        }
     }
-    Ok(())
 }
 
-// Makes a new store on the card.
-fn format<'a>(rt: &HostRuntime, bytes: &'a mut [u8], flags: &'a mut [u8]) -> anyhow::Result<()> {
-    println!(rt; "a new card is formatted")?;
-    match Bench::new(bytes, flags, &[], 1) {
-        Ok(device) => tell_format(rt, device),
-        Err(fault) => say_fault(rt, fault),
-    }
-}
-
-fn tell_format<D: Device + Drop>(rt: &HostRuntime, device: D) -> anyhow::Result<()> {
+// Makes a new store on a device, and closes it.
+fn format<D: Device + Drop>(device: D) -> Result<(), StoreFault> {
     let (store, answer) = Store::format(device);
-    match answer {
-        Ok(()) => println!(rt; "  its memory is all zeros, its log has one mark")?,
-        Err(fault) => say_store_fault(rt, fault)?,
-    }
     let _device = store.close();
-    Ok(())
+    answer
+}
+
+// Opens the store on a device and closes it: how many transactions are found, and how many strays were cleared.
+fn open<D: Device + Drop>(device: D) -> Result<(u64, usize), StoreFault> {
+    let (store, answer) = Store::open(device);
+    let _device = store.close();
+    answer
+}
+
+fn format_card(card: &mut Card) -> Result<(), StoreFault> {
+    format(card.device()?)
+}
+
+fn open_card(card: &mut Card) -> Result<(u64, usize), StoreFault> {
+    open(card.device()?)
 }
 
 // Writes a part of a transaction that has more to come, as a commit does that power cuts before its last one.
@@ -52,78 +67,42 @@ fn write_part<D: Device>(device: &mut D, serial: u64, bytes: &[u8]) -> Result<()
         last: false,
         bytes,
     };
-    let mut sector = [0u8; 128];
+    let mut sector = [0u8; SECTOR];
     let _ = record::write(part, &mut sector);
     device.write(serial as usize, &sector)
 }
 
-fn write_parts<D: Device>(device: &mut D) -> Result<(), DeviceFault> {
-    write_part(device, 2, b"12 visits")?;
-    write_part(device, 3, b"11 visits")
+fn leave_parts(card: &mut Card) -> Result<(), DeviceFault> {
+    let mut device = card.device()?;
+    write_part(&mut device, 2, b"12 visits")?;
+    write_part(&mut device, 3, b"11 visits")
 }
 
-fn leave_parts<'a>(
-    rt: &HostRuntime,
-    bytes: &'a mut [u8],
-    flags: &'a mut [u8],
-) -> anyhow::Result<()> {
-    println!(rt; "power fails in a commit: two parts are on the card, the last one is missing")?;
-    match Bench::new(bytes, flags, &[], 1) {
-        Ok(mut device) => match write_parts(&mut device) {
-            Ok(()) => Ok(()),
-            Err(fault) => say_fault(rt, fault),
-        },
-        Err(fault) => say_fault(rt, fault),
-    }
-}
-
-// Opens the card, with power that fails as the plan says.
-fn open<'a>(
-    rt: &HostRuntime,
-    bytes: &'a mut [u8],
-    flags: &'a mut [u8],
-    plan: &'a [u8],
-) -> anyhow::Result<()> {
-    match Bench::new(bytes, flags, plan, 1) {
-        Ok(device) => tell_open(rt, device),
-        Err(fault) => say_fault(rt, fault),
-    }
-}
-
-fn tell_open<D: Device + Drop>(rt: &HostRuntime, device: D) -> anyhow::Result<()> {
+// Opens the card, with power that fails as its plan says.
+fn tell_opening(rt: &HostRuntime, card: &mut Card) -> anyhow::Result<()> {
     println!(rt; "the card is opened")?;
-    let (store, answer) = Store::open(device);
-    match answer {
+    match open_card(card) {
         Ok((found, strays)) => {
             println!(rt; "  {found} transactions are found, {strays} strays were cleared")?;
+            Ok(())
         }
-        Err(fault) => say_store_fault(rt, fault)?,
+        Err(fault) => say(rt, Err(StoreRefusal(fault))),
     }
-    let _device = store.close();
-    Ok(())
 }
 
 // A card is formatted, a transaction is cut, and so is the opening after it while it clears the strays.
 pub fn tell_recovery(rt: &HostRuntime) -> anyhow::Result<()> {
-    let mut card = Card::blank(rt, SECTORS)?;
-    format(rt, card.bytes.as_mut_slice(), card.flags.as_mut_slice())?;
-    leave_parts(rt, card.bytes.as_mut_slice(), card.flags.as_mut_slice())?;
-    open(
-        rt,
-        card.bytes.as_mut_slice(),
-        card.flags.as_mut_slice(),
-        &[0, 1],
-    )?;
-    open(
-        rt,
-        card.bytes.as_mut_slice(),
-        card.flags.as_mut_slice(),
-        &[],
-    )?;
-    open(
-        rt,
-        card.bytes.as_mut_slice(),
-        card.flags.as_mut_slice(),
-        &[],
-    )
+    let mut card = Card::blank(rt.alloc(), SECTORS, 1)?;
+    println!(rt; "a new card is formatted")?;
+    let new = format_card(&mut card).map(|()| "its memory is all zeros, its log has one mark");
+    say(rt, new.map_err(StoreRefusal))?;
+    println!(rt; "power fails in a commit: two parts are on the card, the last one is missing")?;
+    if let Err(fault) = leave_parts(&mut card) {
+        say(rt, Err(Refusal(fault)))?;
+    }
+    card.plan = vec![in rt.alloc(); 0, 1]?;
+    tell_opening(rt, &mut card)?;
+    card.plan.clear();
+    tell_opening(rt, &mut card)?;
+    tell_opening(rt, &mut card)
 }

@@ -1,0 +1,54 @@
+// Where the console reads its lines and writes its answers.
+use crate::answer::{Answer, Refusal};
+use crate::command::{Command, parse};
+use crate::words::LineFault;
+use std::alloc::Global;
+use std::fmt;
+use std::io::{BufRead, Split, StdinLock};
+use transactions::StoreFault;
+
+// The runtime, and the lines of its standard input that are not read yet.
+#[derive(Drop)]
+pub struct Desk<'a> {
+    rt: &'a HostRuntime,
+    lines: Split<StdinLock<'static>>,
+}
+
+impl<'a> Desk<'a> {
+    pub fn new(rt: &'a HostRuntime) -> Self {
+        Desk {
+            rt,
+            lines: rt.reader().split(rt.alloc(), b'\n'),
+        }
+    }
+
+    pub fn heap(&self) -> Global {
+        self.rt.alloc()
+    }
+
+    // The next command, or none at the end of the input. A line that is none is told so and passed over.
+    pub fn next_command(&mut self) -> anyhow::Result<Option<Command>> {
+        for line in self.lines.by_ref() {
+            match parse(self.rt.alloc(), line?.as_slice()) {
+                Ok(Some(command)) => return Ok(Some(command)),
+                Ok(None) => {}
+                Err(LineFault::Bad) => println!(self.rt; "{}", Answer::BadLine)?,
+                Err(fault) => return Err(fault.into()),
+            }
+        }
+        Ok(None)
+    }
+
+    pub fn say<T: fmt::Display>(&self, line: &T) -> anyhow::Result<()> {
+        println!(self.rt; "{line}")?;
+        Ok(())
+    }
+
+    // Says what came of a call.
+    pub fn tell(&self, outcome: Result<Answer, StoreFault>) -> anyhow::Result<()> {
+        match outcome {
+            Ok(answer) => self.say(&answer),
+            Err(fault) => self.say(&Refusal(fault)),
+        }
+    }
+}

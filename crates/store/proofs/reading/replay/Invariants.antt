@@ -1,7 +1,0 @@
--- The records below the serial that comes next are applied.
-use Rattle.store.proofs.Replaying.{ReplayedTo}
-use Rattle.store.proofs.reading.replay.Given as goal
-
-abbrev pub invariant-loop-serial : goal.invariant-loop-serial
-invariant-loop-serial g l =
-    ReplayedTo l.places (g.D.Device.disk l.initial.device) (g.D.Device.disk l.device) l.low l.serial l.initial.memory l.memory
