@@ -1,9 +1,10 @@
 -- What commits and flushes leave: the store at rest again, or, where power cuts them, nothing kept lost.
 use Rattle.std.proofs.Common.{◌≡◌, ℕ, ◌+◌, ◌-◌, ◌^◌, ◌<◌, ◌≤◌, Bool, true, false, cond, ltb, leb, ◌≢◌, List, [], ◌∷◌, ◌++◌, map, length, get_or, take, drop, Some, None, Option, sym, refl, ap, ◌∙◌, subst, inl, inr, ⊎_elim, arith}
+use Rattle.arrayvec.specs.ArrayVec.{array_vec_len}
 use mathlib.Core.Logic.{∥∥₁_elim}
 use mathlib.Core.HLevel.{Unit-prop, ×_prop, ×₃_prop}
 use native.Mathlib.Bridge.{le_prop}
-use Rattle.std.proofs.lemmas.List.{append_assoc, length-append, length-drop, length-map, length_push, length-take-le, take-append-drop, take-append-le, take_all, drop-append-le, drop_all}
+use Rattle.std.proofs.lemmas.List.{nil_from_length, append_assoc, length-append, length-drop, length-map, length_push, length-take-le, take-append-drop, take-append-le, take_all, drop-append-le, drop_all}
 use Rattle.std.proofs.lemmas.Bool.{both_ways, ltb-false, lt-ltb, le-leb, cases_Bool, cond-true, cond-false}
 use Rattle.device.specs.Disk.{Disk, Plate}
 use Rattle.device.specs.Trace.{Act, settled, Done, CutShort}
@@ -15,6 +16,7 @@ use Rattle.image.specs.declared.run.Run.{Run}
 use Rattle.image.specs.Runs.{Declared, is_declared, Apart, Inside}
 use Rattle.image.specs.Cut.{PiecesLay, PiecesFit, PiecesNone}
 use Rattle.image.specs.Calls.{declared}
+use Rattle.transactions.specs.declared.spool.Spooled.{Spooled}
 use Rattle.transactions.specs.declared.fault.StoreFault.{StoreFault}
 use Rattle.transactions.specs.declared.state.State.{State}
 use Rattle.transactions.specs.Parts.{item_of}
@@ -89,25 +91,23 @@ no_fit row rows e = go row.0 row.1 (first_fit rows) e
 
 -- There are serials and places for k records more.
 record RoomFor (s : State) (k : ℕ) : Type 0 where
-  enough : s.log.last + s.spool.count + k + 65 < 2 ^ 63
-  places : live s + s.spool.count + k + 65 ≤ s.log.places
+  enough : s.log.last + array_vec_len s.spool + k + 65 < 2 ^ 63
+  places : live s + array_vec_len s.spool + k + 65 ≤ s.log.places
 
 room_for : (s : State) (k : ℕ) (flush : Bool) → first_fit (commit_rows s k flush) ≡ None → RoomFor s k
 room_for s k flush e =
     let a = no_fit (serials s k) (full s k ∷ spool_full s k flush ∷ []) e in
     let b = no_fit (full s k) (spool_full s k flush ∷ []) a.1 in
     record {
-      enough = omega (arith, ltb-false (2 ^ 63 - 1) (s.log.last + s.spool.count + k + 65) a.0);
-      places = omega (arith, ltb-false (s.log.places - 65) (live s + s.spool.count + k) b.0, s.log.least);
+      enough = omega (arith, ltb-false (2 ^ 63 - 1) (s.log.last + array_vec_len s.spool + k + 65) a.0);
+      places = omega (arith, ltb-false (s.log.places - 65) (live s + array_vec_len s.spool + k) b.0, s.log.least);
     }
 
-long_spool : (s : State) → length (spooled s) ≡ s.spool.count
-long_spool s =
-    let x = s.spool in
-    length-map (take x.count x.items) item_of ∙ length-take-le x.count x.items (omega (arith, x.sized, x.few))
+long_spool : (s : State) → length (spooled s) ≡ array_vec_len s.spool
+long_spool s = length-map s.spool.items item_of
 
-none_spooled : (s : State) → s.spool.count ≡ 0 → spooled s ≡ []
-none_spooled s e = ap (λ (k : ℕ). map item_of (take k s.spool.items)) e
+none_spooled : (s : State) → array_vec_len s.spool ≡ 0 → spooled s ≡ []
+none_spooled s e = ap (λ (xs : List Spooled). map item_of xs) (nil_from_length s.spool.items e)
 
 -- These records are those of these transactions, and may be written.
 record Ready (n : ℕ) (s : State) (h : History) (us : List Transaction) (xs : List Item) : Type 0 where
@@ -128,7 +128,7 @@ module _ (lay : PiecesLay) (fit : PiecesFit) (none : PiecesNone) (n : ℕ) (d : 
   whole : kept_of h ++ rest ≡ h.entered
   whole = take-append-drop h.kept h.entered
 
-  pub empty_kept : s.spool.count ≡ 0 → h.kept ≡ length h.entered
+  pub empty_kept : array_vec_len s.spool ≡ 0 → h.kept ≡ length h.entered
   empty_kept e =
       omega (arith, r.few, long_spool s, ap length r.waits, length-drop h.kept h.entered, long_batch lay fit none h.kept rest (proper_drop h.kept h.entered r.proper))
 

@@ -1,7 +1,8 @@
 -- What a format makes, what an opening finds again, and that no failing of power in it loses what is kept.
 use Rattle.std.proofs.Common.{◌≡◌, ℕ, zero, suc, ◌<◌, ◌≤◌, false, ◌⊎◌, List, [], ◌∷◌, map, length, get_or, take, Ok, Err, sym, refl, ap, ◌∙◌, subst, inl, inr, ⊎_elim, arith}
+use Rattle.arrayvec.specs.ArrayVec.{array_vec_len}
 use mathlib.Core.Path.{fun_ext}
-use Rattle.std.proofs.lemmas.List.{take-take, drop_all, length-take-le, get_or-replicate}
+use Rattle.std.proofs.lemmas.List.{nil_from_length, take-take, drop_all, length-take-le, get_or-replicate}
 use Rattle.device.specs.declared.fault.DeviceFault.TheVariants.{Power, Misaddressed, Unfit, Spoiled}
 use Rattle.device.specs.Disk.{Disk, Plate, Shown, Stands}
 use Rattle.device.specs.Meaning.{NothingNew, Quiet, Lost, Failed, Restarted}
@@ -21,10 +22,10 @@ use Rattle.recovery.specs.declared.fault.RecoveryFault.TheVariants.{Device, Size
 use Rattle.recovery.specs.Clearing.{clearing}
 use Rattle.recovery.specs.Format.{formatting}
 use Rattle.recovery.specs.Opening.{Refuses, CutClearing, Recovers, Divides, NoRestart, Opens}
+use Rattle.transactions.specs.declared.spool.Spooled.{Spooled}
 use Rattle.transactions.specs.declared.fault.StoreFault.{StoreFault}
-use Rattle.transactions.specs.declared.spool.Spool.{Spool}
 use Rattle.transactions.specs.declared.state.State.{State}
-use Rattle.transactions.specs.Parts.{item_of, waiting}
+use Rattle.transactions.specs.Parts.{Spool, item_of, waiting}
 use Rattle.transactions.specs.Fault.{number, from_recovery}
 use Rattle.transactions.specs.State.{Formatted, Opened}
 use Rattle.law.specs.Transactions.{Transaction, made_of, batch, AllProper}
@@ -77,8 +78,8 @@ safe_restarted n d e h w r =
     safe_less n d e h w r.plate (λ i x stands. subst (λ (y : Shown). Stands d i y) (sym (r.quiet i x stands)) (r.chosen i))
 
 -- an empty spool holds nothing
-none_waits : (x : Spool) → x.count ≡ 0 → waiting x ≡ []
-none_waits x none = ap (λ (k : ℕ). map item_of (take k x.items)) none
+none_waits : (x : Spool) → array_vec_len x ≡ 0 → waiting x ≡ []
+none_waits x none = ap (λ (xs : List Spooled). map item_of xs) (nil_from_length x.items none)
 
 -- A new store has entered nothing.
 pub new_rests : (d e : Disk) (s : State) (u : Unit {0}) → (f : Formatted d (Ok u) e s) → Resting f.0 e s nothing_entered

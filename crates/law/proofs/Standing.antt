@@ -1,5 +1,6 @@
 -- How a store and its device stand with what is entered and kept, and what keeps that.
 use Rattle.std.proofs.Common.{◌≡◌, ℕ, ◌+◌, Bool, true, false, not, ◌&&◌, eqb, ◌⊎◌, List, [], ◌∷◌, get_or, take, Some, None, Ok, sym, refl, ap, ◌∙◌, subst, inl, inr, arith}
+use Rattle.arrayvec.specs.ArrayVec.{array_vec_len}
 use Rattle.std.proofs.lemmas.Bool.{both_ways, not-false, and_parts}
 use Rattle.device.specs.Disk.{Disk}
 use Rattle.device.specs.Trace.{Act}
@@ -8,11 +9,10 @@ use Rattle.image.specs.declared.state.Image.{Image}
 use Rattle.image.specs.Calls.{declared}
 use Rattle.transactions.specs.declared.fault.StoreFault.{StoreFault}
 use Rattle.transactions.specs.declared.log.Log.{Log}
-use Rattle.transactions.specs.declared.spool.Spool.{Spool}
 use Rattle.transactions.specs.declared.state.State.{State}
-use Rattle.transactions.specs.Parts.{waiting}
+use Rattle.transactions.specs.Parts.{Spool, waiting}
 use Rattle.transactions.specs.Rows.{Row, first_fit, off, busy, stranger, token_rows}
-use Rattle.transactions.specs.State.{Formatted, LiesOn, MadeOf}
+use Rattle.transactions.specs.State.{Formatted, MadeOf}
 use Rattle.law.specs.declared.script.Call.{Call}
 use Rattle.law.specs.Transactions.{made_of}
 use Rattle.law.specs.History.{History, Resting, Safe, Sound}
@@ -44,11 +44,6 @@ safe n s d h w = go w.stands
     go (inl (_, r)) = rest_safe n d s h r
     go (inr (_, r)) = r
 
-pub lies : (n : ℕ) (m : Moment) (h : History) → Standing n m h → LiesOn m.state m.disk
-lies n m h w on =
-    let r = rests n m.state m.disk h w on in
-    omega (arith, r.places, r.divides.homes)
-
 -- to how it stands
 
 pub same_stands : (n : ℕ) (s s' : State) (d e : Disk) (h : History) → Sound n s d h → s' ≡ s → e ≡ d → Sound n s' e h
@@ -76,7 +71,7 @@ moved n s s' d h image busy r m before =
       proper = r.proper;
       number = ap (λ (x : Log). x.ordinal) log ∙ r.number;
       waits = ap (λ (x : Spool). waiting x) spool ∙ r.waits;
-      room = omega (arith, r.room, ap (λ (x : Log). x.low) log, ap (λ (x : Log). x.last) log, ap (λ (x : Spool). x.count) spool);
+      room = omega (arith, r.room, ap (λ (x : Log). x.low) log, ap (λ (x : Log). x.last) log, ap (λ (x : Spool). array_vec_len x) spool);
       before = λ i small. ap (λ (x : Image). get_or x.before i 0) m.image_is ∙ ap (λ (x : List ℕ). get_or x i 0) before ∙ r.before i small;
     }
 

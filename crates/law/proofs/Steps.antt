@@ -1,5 +1,6 @@
 -- One event keeps the law.
 use Rattle.std.proofs.Common.{◌≡◌, ℕ, ◌<◌, ◌≤◌, Bool, true, false, cond, not, ◌&&◌, leb, ◌≢◌, List, [], ◌∷◌, ◌++◌, length, get_or, take, Some, None, Ok, Err, Option, Result, sym, refl, ap, ◌∙◌, subst, inl, inr, arith, Bor}
+use Rattle.arrayvec.specs.ArrayVec.{array_vec_len}
 use Rattle.std.proofs.lemmas.List.{length_push}
 use Rattle.std.proofs.lemmas.Bool.{both_ways, and_from, and_left, and_right, le-leb, lt-leb}
 use Rattle.device.specs.Disk.{Disk}
@@ -244,22 +245,22 @@ module _ (n : ℕ) (s s' : State) (d e : Disk) (h : History) (w : Sound n s d h)
   FlushKeeps a = ((k : ℕ) → a ≡ Ok (told.Flushed k) → AllKept (with_barrier made h.entered h.kept)) × Sound n s' e (with_barrier made h.entered h.kept)
 
   -- one that writes nothing
-  flush_none : s' ≡ s → e ≡ d → s.on && leb 1 s.spool.count ≡ false → Traced (flush_plan s) d made e → (with_barrier made h.entered h.kept ≡ h) × Sound n s' e (with_barrier made h.entered h.kept)
+  flush_none : s' ≡ s → e ≡ d → s.on && leb 1 (array_vec_len s.spool) ≡ false → Traced (flush_plan s) d made e → (with_barrier made h.entered h.kept ≡ h) × Sound n s' e (with_barrier made h.entered h.kept)
   flush_none state device idle traced =
       let empty : made ≡ [] = none_made d e made (subst (λ (b : Bool). Traced (cond b (writing s (spooled s)) []) d made e) idle traced) in
       let is : with_barrier made h.entered h.kept ≡ h = none_settled made h.entered h.kept (ap settles empty) in
       (is, subst (λ (g : History). Sound n s' e g) (sym is) (same_stands n s s' d e h w state device))
 
   -- the plan of one that writes
-  flush_writes : s.on ≡ true → 1 ≤ s.spool.count → Traced (flush_plan s) d made e → Traced (writing s (spooled s)) d made e
+  flush_writes : s.on ≡ true → 1 ≤ array_vec_len s.spool → Traced (flush_plan s) d made e → Traced (writing s (spooled s)) d made e
   flush_writes on some traced =
-      subst (λ (b : Bool). Traced (cond b (writing s (spooled s)) []) d made e) (and_from s.on (leb 1 s.spool.count) on (le-leb 1 s.spool.count some)) traced
+      subst (λ (b : Bool). Traced (cond b (writing s (spooled s)) []) d made e) (and_from s.on (leb 1 (array_vec_len s.spool)) on (le-leb 1 (array_vec_len s.spool) some)) traced
 
   flush_answers : (r : Result ℕ StoreFault) → Traced (flush_plan s) d made e → Flushes s d r s' e → FlushKeeps (told_flush r)
   flush_answers (Ok k) traced (fits, count, inl (zero_is, state, device)) =
       let on = awake s [] fits in
-      let empty : s.spool.count ≡ 0 = omega arith in
-      let r = flush_none state device (and_right s.on (leb 1 s.spool.count) (lt-leb 1 s.spool.count (omega arith))) traced in
+      let empty : array_vec_len s.spool ≡ 0 = omega arith in
+      let r = flush_none state device (and_right s.on (leb 1 (array_vec_len s.spool)) (lt-leb 1 (array_vec_len s.spool) (omega arith))) traced in
       (λ j is. subst AllKept (sym r.0) (empty_kept runs_lay runs_fit runs_none n d s h (rests n s d h w on) empty), r.1)
   flush_answers (Ok k) traced (fits, count, inr (some, done, written, image, closed)) =
       let on = awake s [] fits in
@@ -271,7 +272,7 @@ module _ (n : ℕ) (s s' : State) (d e : Disk) (h : History) (w : Sound n s d h)
       )
   flush_answers (Err f) traced (inl (fits, state, device)) = (
     λ j is. absurd (let z : ◌≡◌ {A = ℕ} 0 1 = cc in omega arith),
-    (flush_none state device (and_left s.on (leb 1 s.spool.count) (asleep s f fits)) traced).1,
+    (flush_none state device (and_left s.on (leb 1 (array_vec_len s.spool)) (asleep s f fits)) traced).1,
   )
   flush_answers (Err f) traced (inr (fits, some, c)) =
       let on = awake s [] fits in

@@ -1,5 +1,6 @@
 -- The writes and barriers that a call made, from what its relation says of the device.
 use Rattle.std.proofs.Common.{◌≡◌, ℕ, Bool, true, false, cond, not, ◌&&◌, leb, List, [], ◌++◌, length, Some, None, Ok, Err, Option, Result, sym, refl, ap, ◌∙◌, subst, inl, inr, arith}
+use Rattle.arrayvec.specs.ArrayVec.{array_vec_len}
 use Rattle.std.proofs.lemmas.Bool.{le-leb, lt-leb}
 use Rattle.device.specs.Disk.{Disk}
 use Rattle.device.specs.Trace.{Act, Done}
@@ -10,7 +11,7 @@ use Rattle.transactions.specs.declared.state.State.{State}
 use Rattle.transactions.specs.declared.token.Token.{Token}
 use Rattle.transactions.specs.Calls.{Commits, writing}
 use Rattle.transactions.specs.Rows.{first_fit, token_rows, commit_rows}
-use Rattle.transactions.specs.State.{spooled, own, LiesOn}
+use Rattle.transactions.specs.State.{spooled, own}
 use Rattle.law.specs.declared.script.Deed.{Deed}
 use Rattle.law.specs.declared.script.Deed.TheVariants.{Begin, SetRange, Write, Commit, Abort}
 use Rattle.law.specs.declared.script.Call.{Call}
@@ -100,19 +101,19 @@ off_of false f g h = refl
 pub flush_traced : (s s' : State) (d e : Disk) (a : Answer) → Flushing s d a s' e → SomeMade (flush_plan s) d e
 flush_traced s s' d e a (Ok k, _, (fits, count, inl (zero, _, same))) =
     let on = on_of s.on _ fits in
-    let few = lt-leb 1 s.spool.count (omega (arith, count, zero)) in
-    none_made (flush_plan s) d e (ap (λ (b : Bool). cond (b && leb 1 s.spool.count) (writing s (spooled s)) []) on ∙ ap (λ (b : Bool). cond b (writing s (spooled s)) []) few) same
+    let few = lt-leb 1 (array_vec_len s.spool) (omega (arith, count, zero)) in
+    none_made (flush_plan s) d e (ap (λ (b : Bool). cond (b && leb 1 (array_vec_len s.spool)) (writing s (spooled s)) []) on ∙ ap (λ (b : Bool). cond b (writing s (spooled s)) []) few) same
 flush_traced s s' d e a (Ok k, _, (fits, count, inr (some, done, _, _, _))) =
     let on = on_of s.on _ fits in
-    let few = le-leb 1 s.spool.count (omega (arith, count, some)) in
-    all_made (flush_plan s) (writing s (spooled s)) d e (ap (λ (b : Bool). cond (b && leb 1 s.spool.count) (writing s (spooled s)) []) on ∙ ap (λ (b : Bool). cond b (writing s (spooled s)) []) few) done
+    let few = le-leb 1 (array_vec_len s.spool) (omega (arith, count, some)) in
+    all_made (flush_plan s) (writing s (spooled s)) d e (ap (λ (b : Bool). cond (b && leb 1 (array_vec_len s.spool)) (writing s (spooled s)) []) on ∙ ap (λ (b : Bool). cond b (writing s (spooled s)) []) few) done
 flush_traced s s' d e a (Err f, _, inl (fits, _, same)) =
     let off = off_of s.on _ f fits in
-    none_made (flush_plan s) d e (ap (λ (b : Bool). cond (b && leb 1 s.spool.count) (writing s (spooled s)) []) off) same
+    none_made (flush_plan s) d e (ap (λ (b : Bool). cond (b && leb 1 (array_vec_len s.spool)) (writing s (spooled s)) []) off) same
 flush_traced s s' d e a (Err f, _, inr (fits, some, c)) =
     let on = on_of s.on _ fits in
-    let few = le-leb 1 s.spool.count some in
-    let plan = ap (λ (b : Bool). cond (b && leb 1 s.spool.count) (writing s (spooled s)) []) on ∙ ap (λ (b : Bool). cond b (writing s (spooled s)) []) few in
+    let few = le-leb 1 (array_vec_len s.spool) some in
+    let plan = ap (λ (b : Bool). cond (b && leb 1 (array_vec_len s.spool)) (writing s (spooled s)) []) on ∙ ap (λ (b : Bool). cond b (writing s (spooled s)) []) few in
     let r = cut_at d e (writing s (spooled s)) c.origin c.cut in
     (r.0, subst (λ (x : List Act). Traced x d r.0 e) (sym plan) (inr (c.origin, r.1)))
 
@@ -120,23 +121,23 @@ flush_traced s s' d e a (Err f, _, inr (fits, some, c)) =
 pub stepped_as : (call call' : Call) (m m' : Moment) (a : Answer) → call ≡ call' → Stepped call' m a m' → Stepped call m a m'
 stepped_as call call' m m' a e h = subst (λ (x : Call). Stepped x m a m') (sym e) h
 
-pub stepped_first : (deed : Deed) (s s' : State) (d e : Disk) (first second held : Option Token) (a : Answer) → (LiesOn s d → Acts deed s d first a s' e held)
+pub stepped_first : (deed : Deed) (s s' : State) (d e : Disk) (first second held : Option Token) (a : Answer) → Acts deed s d first a s' e held
     → Stepped (With First deed) (moment s d first second) a (moment s' e held second)
-stepped_first deed s s' d e first second held a acts lies =
-    let t = deed_traced deed s s' d e first held a (acts lies) in
-    (t.0, (held, acts lies, (refl, refl), t.1))
+stepped_first deed s s' d e first second held a acts =
+    let t = deed_traced deed s s' d e first held a acts in
+    (t.0, (held, acts, (refl, refl), t.1))
 
-pub stepped_second : (deed : Deed) (s s' : State) (d e : Disk) (first second held : Option Token) (a : Answer) → (LiesOn s d → Acts deed s d second a s' e held)
+pub stepped_second : (deed : Deed) (s s' : State) (d e : Disk) (first second held : Option Token) (a : Answer) → Acts deed s d second a s' e held
     → Stepped (With Second deed) (moment s d first second) a (moment s' e first held)
-stepped_second deed s s' d e first second held a acts lies =
-    let t = deed_traced deed s s' d e second held a (acts lies) in
-    (t.0, (held, acts lies, (refl, refl), t.1))
+stepped_second deed s s' d e first second held a acts =
+    let t = deed_traced deed s s' d e second held a acts in
+    (t.0, (held, acts, (refl, refl), t.1))
 
 pub stepped_read : (start size : ℕ) (m : Moment) (a : Answer) → Reading m.state start size a → Stepped (Read start size) m a m
-stepped_read start size m a h lies = ([], (h, refl, refl))
+stepped_read start size m a h = ([], (h, refl, refl))
 
-pub stepped_flush : (s s' : State) (d e : Disk) (first second : Option Token) (a : Answer) → (LiesOn s d → Flushing s d a s' e)
+pub stepped_flush : (s s' : State) (d e : Disk) (first second : Option Token) (a : Answer) → Flushing s d a s' e
     → Stepped Flush (moment s d first second) a (moment s' e first second)
-stepped_flush s s' d e first second a h lies =
-    let t = flush_traced s s' d e a (h lies) in
-    (t.0, (h lies, (refl, refl), t.1))
+stepped_flush s s' d e first second a h =
+    let t = flush_traced s s' d e a h in
+    (t.0, (h, (refl, refl), t.1))

@@ -11,7 +11,7 @@ use Rattle.law.specs.Events.{Answer, Moment, moment, Event, Chain, calls_of, ans
 use Rattle.law.specs.Law.{nothing_entered, history, AllLawful}
 use Rattle.law.specs.Run.{Stepped, Worked, Ran}
 use Rattle.law.proofs.Runs.{chain_snoc, history_snoc, lawful_snoc, calls_snoc, answers_snoc}
-use Rattle.law.proofs.Standing.{Standing, lies, begins, event}
+use Rattle.law.proofs.Standing.{Standing, begins, event}
 use Rattle.law.proofs.Steps.{step}
 
 -- After i calls: the events so far, lawful, and how the store stands with what they entered and kept.
@@ -53,7 +53,7 @@ goes : (n : ℕ) (start : Moment) (calls : List Call) (i : ℕ) (answers : List 
     → i < length calls → i < length answers → call ≡ get_or calls i call → Stepped call m a m' → Going n start calls i answers m → Going n start calls (i + 1) (set answers i a) m'
 goes n start calls i answers m m' call a there room is stepped w =
     let h = history nothing_entered w.events in
-    let did = stepped (lies n m h w.stands) in
+    let did = stepped in
     let e : Event = event call a m m' did.0 in
     let kept = step n call a m m' did.0 h w.stands did.1 in
     record {

@@ -1,5 +1,6 @@
 -- What happens in a run: each call, what it answered, and what it made of the store and the device.
 use Rattle.std.specs.Prelude.{◌≡◌, ℕ, min, Bool, true, false, cond, not, ◌&&◌, ◌⊎◌, List, [], ◌∷◌, ◌++◌, length, take, replicate, Some, None, Ok, Err, Option, Result, nat_le}
+use Rattle.arrayvec.specs.ArrayVec.{array_vec_len}
 use Rattle.device.specs.Disk.{Disk}
 use Rattle.device.specs.Trace.{Act, Done, Cut}
 use Rattle.image.specs.Calls.{declared, none}
@@ -125,7 +126,7 @@ abbrev pub commit_plan : State → Option Token → Bool → List Act
 commit_plan s held flush = cond (does_enter s held flush && flush) (writing s (spooled s ++ own s)) []
 
 abbrev pub flush_plan : State → List Act
-flush_plan s = cond (s.on && nat_le 1 s.spool.count) (writing s (spooled s)) []
+flush_plan s = cond (s.on && nat_le 1 (array_vec_len s.spool)) (writing s (spooled s)) []
 
 abbrev pub deed_plan : Deed → State → Option Token → List Act
 deed_plan Begin s held = []

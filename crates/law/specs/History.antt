@@ -1,5 +1,6 @@
 -- What has been entered and what is kept, and how that stands with a store and its device.
 use Rattle.std.specs.Prelude.{◌≡◌, ℕ, ◌+◌, ◌<◌, ◌≤◌, true, false, ◌⊎◌, List, [], length, take, drop, slice_index}
+use Rattle.arrayvec.specs.ArrayVec.{array_vec_len}
 use Rattle.device.specs.Disk.{Disk, Shown}
 use Rattle.device.specs.Meaning.{Quiet}
 use Rattle.durability.specs.Standing.{Firm, OpensTo, Choice}
@@ -26,7 +27,7 @@ pub record Resting (n : ℕ) (d : Disk) (s : State) (h : History) : Type 0 where
   pub proper : AllProper h.entered
   pub number : s.log.ordinal ≡ length h.entered
   pub waits : spooled s ≡ batch h.kept (drop h.kept h.entered)
-  pub room : live s + s.spool.count ≤ n
+  pub room : live s + array_vec_len s.spool ≤ n
   pub before : (i : ℕ) → i < 6144 → slice_index s.image.before i ≡ made_of h.entered i
 
 -- These sectors open to some of the first transactions entered, all kept ones among them.

@@ -1,23 +1,24 @@
 -- What a run of a script does.
 use Rattle.std.specs.Prelude.{◌≡◌, ℕ, min, List, length, take, drop, None, Ok, Err, Result}
 use Rattle.device.specs.Disk.{Disk}
+use Rattle.device.specs.declared.Device.{Ghosts}
 use Rattle.device.specs.Trace.{Act}
 use Rattle.transactions.specs.declared.fault.StoreFault.{StoreFault}
 use Rattle.transactions.specs.declared.state.State.{State}
-use Rattle.transactions.specs.State.{Formatted, LiesOn}
+use Rattle.transactions.specs.State.{Formatted}
 use Rattle.law.specs.declared.run.Run.{Run}
 use Rattle.law.specs.declared.script.Call.{Call}
 use Rattle.law.specs.Events.{Answer, Moment, moment, Event, TakesPlace, Chain, calls_of, answers_of}
 use Rattle.law.specs.History.{Sound}
 use Rattle.law.specs.Law.{nothing_entered, AllLawful}
 
--- Where a run stands, by what shows the disk of its device.
-abbrev pub moment_of : {D : Type 0} → (D → Disk) → Run D → Moment
-moment_of disk r = moment r.store.state (disk r.store.device) r.first r.second
+-- Where a run stands.
+abbrev pub moment_of : {D : Type 0} {d : Ghosts D} → Run D d → Moment
+moment_of {d = d} r = moment r.store.state (d.disk r.store.device) r.first r.second
 
 -- One call of a script took place.
 abbrev pub Stepped : Call → Moment → Answer → Moment → Type 0
-Stepped call m a m' = LiesOn m.state m.disk → (made : List Act) × TakesPlace call a m m' made
+Stepped call m a m' = (made : List Act) × TakesPlace call a m m' made
 
 -- A run from a moment at which nothing is entered: events that follow one another, one for each call that was
 -- made, and the law holds of them all.

@@ -1,6 +1,5 @@
 // The calls of a script, one at a time.
 ghost use Rattle.law.specs.Events.{Acts, Reading, Flushing, Opening};
-ghost use Rattle.transactions.specs.State.{LiesOn};
 ghost use Rattle.std.specs.Prelude.{◌≡◌, None};
 
 use crate::script::{Answer, Deed, Told};
@@ -27,7 +26,7 @@ pub(crate) fn act<D: Device>(
     held: Option<Token>,
     deed: Deed,
 ) -> (Option<Token>, Answer)
-    ensures { LiesOn store.old.state (D.Device.disk store.old.device) → Acts deed.entry store.old.state (D.Device.disk store.old.device) held result.1 store.new.state (D.Device.disk store.new.device) result.0 }
+    ensures { Acts deed.entry store.old.state (D.Device.disk store.old.device) held result.1 store.new.state (D.Device.disk store.new.device) result.0 }
 {
     match (held, deed) {
         (None, Deed::Begin) => begin(store),
@@ -63,7 +62,7 @@ pub(crate) fn read<D: Device>(store: &Store<D>, start: usize, size: usize) -> An
 }
 
 pub(crate) fn flush<D: Device>(store: &mut Store<D>) -> Answer
-    ensures { LiesOn store.old.state (D.Device.disk store.old.device) → Flushing store.old.state (D.Device.disk store.old.device) result store.new.state (D.Device.disk store.new.device) }
+    ensures { Flushing store.old.state (D.Device.disk store.old.device) result store.new.state (D.Device.disk store.new.device) }
 {
     store.flush().map(Told::Flushed)
 }

@@ -8,7 +8,7 @@ use device::Device;
 use transactions::{Store, StoreFault, Token};
 
 // A store in the middle of a run, and the tokens that the script holds.
-pub struct Run<D> {
+pub struct Run<D: Device> {
     store: Store<D>,
     first: Option<Token>,
     second: Option<Token>,
@@ -17,7 +17,7 @@ pub struct Run<D> {
 impl<D: Device> Run<D> {
     // Does something with the token in a place.
     fn with_token(mut self, slot: Slot, deed: Deed) -> (Self, Answer)
-        ensures { Stepped (Call.With slot deed.entry) (moment_of D.Device.disk self) result.1 (moment_of D.Device.disk result.0) }
+        ensures { Stepped (Call.With slot deed.entry) (moment_of self) result.1 (moment_of result.0) }
     {
         match slot {
             Slot::First => {
@@ -35,7 +35,7 @@ impl<D: Device> Run<D> {
 
     // Makes one call of a script.
     fn step(mut self, call: Call) -> (Self, Answer)
-        ensures { Stepped call.entry (moment_of D.Device.disk self) result.1 (moment_of D.Device.disk result.0) }
+        ensures { Stepped call.entry (moment_of self) result.1 (moment_of result.0) }
     {
         match call {
             Call::With(slot, deed) => self.with_token(slot, deed),
@@ -57,7 +57,7 @@ impl<D: Device> Run<D> {
 
     // Makes the calls of a script, as far as there is room for answers, and says how many that were.
     fn work_through(self, calls: &[Call], answers: &mut [Answer]) -> (Self, usize)
-        ensures { Worked (moment_of D.Device.disk self) calls.now answers.old result.1 answers.new (moment_of D.Device.disk result.0) }
+        ensures { Worked (moment_of self) calls.now answers.old result.1 answers.new (moment_of result.0) }
     {
         let mut run = self;
         let count = calls.len().min(answers.len());

@@ -1,8 +1,6 @@
 // Finding the pages that a truncation is to write home.
-ghost use Rattle.std.specs.Prelude.{◌≡◌, ◌^◌, ◌<◌, ◌≤◌, false, if◌then◌else◌, nat_le, nat_lt};
+ghost use Rattle.std.specs.Prelude.{◌^◌, ◌<◌, ◌≤◌};
 ghost use Rattle.journal.specs.Log.{log};
-ghost use Rattle.journal.specs.Notes.{Notes, kind_number};
-ghost use Rattle.journal.specs.Survey.{if_noted};
 ghost use Rattle.durability.specs.Items.{recorded};
 ghost use Rattle.recovery.specs.Reading.{Looks};
 ghost use Rattle.transactions.specs.Pages.{Told, Noted, FoundLive, FoundWaiting, FoundDirty};
@@ -14,40 +12,8 @@ use crate::pages::{Dirty, PAGES, Page};
 use crate::spool::{Spool, Spooled};
 use crate::state::State;
 use device::{Device, DeviceFault};
-use journal::{BLANK, Kind, Note, look_at};
-
-// The note, where it is of this serial; else that of no record.
-fn of_serial(note: Note, serial: u64) -> Note
-    ensures { result ≡ if_noted serial note }
-{
-    if note.head.serial == serial {
-        note
-    } else {
-        BLANK
-    }
-}
-
-// The note of the record with this serial, where the log has it.
-fn look_for<D: Device>(device: &mut D, places: usize, serial: u64) -> Result<Note, DeviceFault>
-    requires some { 1 ≤ places }
-    requires room { places ≤ (D.Device.disk device.old).plate.sectors }
-    ensures { Looks (D.Device.disk device.old) (Notes (log places (D.Device.disk device.old).shows serial)) result (D.Device.disk device.new) }
-{
-    let mut sector = [0u8; 128];
-    let place = (serial % places as u64) as usize;
-    match device.read(place, &mut sector) {
-        Ok(()) => Ok(of_serial(look_at(&sector, place, places), serial)),
-        Err(DeviceFault::Spoiled(_, _)) => Ok(BLANK),
-        Err(fault) => Err(fault),
-    }
-}
-
-// Whether a record of this kind names a page: parts and page records do.
-fn names_page(kind: Kind) -> bool
-    ensures { result ≡ (if nat_le 1 (kind_number kind) then nat_lt (kind_number kind) 4 else false) }
-{
-    matches!(kind, Kind::Part | Kind::Last | Kind::Page)
-}
+use journal::Kind;
+use recovery::note_at;
 
 // Notes what a record says of a page, where there is such a page.
 fn tell(pages: &mut [Page; PAGES], page: usize, said: Page)
@@ -65,16 +31,16 @@ fn note_live<D: Device>(
     serial: u64,
     pages: &mut [Page; PAGES],
 ) -> Result<(), DeviceFault>
-    requires some { 1 ≤ places }
-    requires room { places ≤ (D.Device.disk device.old).plate.sectors }
+    requires { places ≤ (D.Device.disk device.old).plate.sectors }
     ensures { Looks (D.Device.disk device.old) (λ _. Noted (log places (D.Device.disk device.old).shows serial) pages.old pages.new) result (D.Device.disk device.new) }
 {
-    let note = look_for(device, places, serial)?;
-    let said = Page {
-        named: names_page(note.kind),
-        covered: note.whole,
-    };
-    tell(pages, note.page as usize, said);
+    if let Some(note) = note_at(device, places, serial)? {
+        let said = Page {
+            named: note.kind != Kind::Mark,
+            covered: note.whole,
+        };
+        tell(pages, note.page as usize, said);
+    }
     Ok(())
 }
 

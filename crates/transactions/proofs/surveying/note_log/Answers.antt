@@ -18,8 +18,8 @@ loop-serial-init g c =
       found = subst (λ (k : ℕ). FoundFirst log d.shows k c.args.pages.now c.args.pages.now) none (found_none log d.shows c.args.pages.now);
     }
 
-pub note_live-requires-clause-room : goal.note_live-requires-clause-room
-note_live-requires-clause-room g c = subst (λ (x : Disk). c.args.log.now.places ≤ x.plate.sectors) (sym c.loop-serial.invariant.same) c.requires.room
+pub note_live-requires : goal.note_live-requires
+note_live-requires g c = subst (λ (x : Disk). c.args.log.now.places ≤ x.plate.sectors) (sym c.loop-serial.invariant.same) c.requires.room
 
 pub loop-serial-preserved : goal.loop-serial-preserved
 loop-serial-preserved g c =

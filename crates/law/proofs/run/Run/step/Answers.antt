@@ -1,6 +1,7 @@
 -- Each call by its own relation.
 use Rattle.law.specs.declared.script.Call.TheVariants.{With, Read, Flush}
 use Rattle.law.specs.Events.{moment}
+use Rattle.law.specs.Run.{moment_of}
 use Rattle.law.proofs.Tracing.{stepped_as, stepped_read, stepped_flush}
 use Rattle.law.proofs.run.Run.step.Goals as goal
 
@@ -10,14 +11,14 @@ returns-in-With g c =
     let r = c.with_token.result in
     let after = r.0 in
     stepped_as c.args.call (With c.in-With.slot c.in-With.deed)
-    (moment run.store.state (g.D.Device.disk run.store.device) run.first run.second)
-    (moment after.store.state (g.D.Device.disk after.store.device) after.first after.second) r.1
+    (moment_of run)
+    (moment_of after) r.1
     c.in-With.is c.with_token.ensures
 
 pub returns-in-Read : goal.returns-in-Read
 returns-in-Read g c =
     let run = c.args.self in
-    let m = moment run.store.state (g.D.Device.disk run.store.device) run.first run.second in
+    let m = moment_of run in
     stepped_as c.args.call (Read c.in-Read.start c.in-Read.size) m m c.read-answer.result c.in-Read.is
     (stepped_read c.in-Read.start c.in-Read.size m c.read-answer.result c.read-answer.ensures)
 

@@ -1,7 +1,7 @@
 -- Each turn makes one call more.
 use Rattle.std.proofs.Common.{◌<◌, min, length, arith, ◌∙◌, subst}
 use Rattle.std.proofs.lemmas.List.{get_or_default, get_or-take, length-take}
-use Rattle.law.specs.Events.{moment}
+use Rattle.law.specs.Run.{moment_of}
 use Rattle.law.proofs.Working.{so_far_goes}
 use Rattle.law.proofs.run.Run.work_through.Goals as goal
 
@@ -17,7 +17,7 @@ loop-i-preserved g c =
     let made : i < count = omega (arith, under) in
     let there : i < length calls = omega (arith, under) in
     let room : i < length c.loop-i.answers = omega (arith, under, c.min-count.ensures, c.loop-i.auto.answers) in
-    so_far_goes (moment start.store.state (g.D.Device.disk start.store.device) start.first start.second) calls c.args.answers.now i c.loop-i.answers
-    (moment run.store.state (g.D.Device.disk run.store.device) run.first run.second)
-    (moment after.store.state (g.D.Device.disk after.store.device) after.first after.second)
+    so_far_goes (moment_of start) calls c.args.answers.now i c.loop-i.answers
+    (moment_of run)
+    (moment_of after)
     _ c.step-next.result.1 there room (get_or-take count calls i _ made ∙ get_or_default calls i _ _ there) c.step-next.ensures c.loop-i.invariant
