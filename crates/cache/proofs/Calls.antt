@@ -4,7 +4,7 @@ use Rattle.std.proofs.lemmas.Bool.{both_ways}
 use Rattle.device.specs.declared.fault.DeviceFault.{DeviceFault}
 use Rattle.device.specs.declared.fault.DeviceFault.TheVariants.{Power, Misaddressed, Unfit, Spoiled}
 use Rattle.device.specs.Disk.{Disk, Shown, Stands}
-use Rattle.device.specs.Meaning.{Answer, Addressed, NothingNew, Torn, Write, Wrote, Read, ReadDone, Restart}
+use Rattle.device.specs.Meaning.{Answer, Addressed, NothingNew, Torn, Write, Wrote, Read, ReadDone, Restart, on_after, told_after}
 use Rattle.device.proofs.Changes.{not_astray, faded_failed, changed_cut, cut_origin, done_one, cut_one}
 use Rattle.device.specs.declared.power.Power.{Power as Known}
 use Rattle.cache.specs.declared.held.Slot.{Slot}
@@ -203,8 +203,8 @@ not_pushed c c' s b Unfit a k n = absurd n
 not_pushed c c' s b (Spoiled _ _) a k n = absurd n
 
 -- a restart below, whatever was held
-pub restarts : (c c' : State) (r : Answer) → Restarts c r c' → Restart (disk_of c) r (disk_of c')
-restarts c c' (Ok u) w =
+restarted : (c c' : State) (r : Answer) → Restarts c r c' → Restart (disk_of c) r (disk_of c')
+restarted c c' (Ok u) w =
     rw w.turns
     (record {
       on = w.on;
@@ -212,7 +212,7 @@ restarts c c' (Ok u) w =
       chosen = λ i. lay.over_under c.below c.held i (c'.below.shows i) (w.below.chosen i);
       quiet = w.below.quiet;
     })
-restarts c c' (Err (Power o)) w =
+restarted c c' (Err (Power o)) w =
     rw w.turns
     (record {
       off = w.on;
@@ -221,6 +221,10 @@ restarts c c' (Err (Power o)) w =
       told = w.told;
       old = λ i x st. lay.over_under c.below c.held i x (w.below.old i x st);
     })
-restarts c c' (Err (Misaddressed _ _)) w = absurd w.below
-restarts c c' (Err Unfit) w = absurd w.below
-restarts c c' (Err (Spoiled _ _)) w = absurd w.below
+restarted c c' (Err (Misaddressed _ _)) w = absurd w.below
+restarted c c' (Err Unfit) w = absurd w.below
+restarted c c' (Err (Spoiled _ _)) w = absurd w.below
+
+pub restarts : (d e : Disk) (h h' : List Slot) (p p' : Known) (r s : Answer) → Restart d r e → h' ≡ [] → p'.on ≡ on_after r → p'.told ≡ told_after p.told r → s ≡ r
+    → Restart (disk_of (made d h p)) s (disk_of (made e h' p'))
+restarts d e h h' p p' r s w none on told same = rw same (restarted (made d h p) (made e h' p') r (record { below = w; turns = none; on = on; told = told }))

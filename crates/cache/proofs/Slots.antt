@@ -8,8 +8,8 @@ use Rattle.std.proofs.lemmas.List.Folds.{find-append}
 use Rattle.std.proofs.lemmas.List.Edits.{map_over_more}
 use Rattle.device.specs.declared.fault.DeviceFault.TheVariants.{Power, Misaddressed, Unfit, Spoiled}
 use Rattle.device.specs.Disk.{Disk}
-use Rattle.device.specs.Meaning.{Answer, Addressed, Write}
-use Rattle.device.proofs.Changes.{still_addressed, changed_cut}
+use Rattle.device.specs.Meaning.{Answer, Addressed, Read, Write}
+use Rattle.device.proofs.Changes.{still_addressed, changed_cut, read_plate}
 use Rattle.cache.specs.declared.held.Slot.{Slot}
 use Rattle.cache.specs.Held.{slot, kept, rewritten, Fits}
 
@@ -81,9 +81,16 @@ fits_rewritten d (l ∷ ls) s b a f = (
 )
 
 -- a write leaves the plate
-pub write_plate : (d e : Disk) (s : ℕ) (b : List ℕ) (r : Answer) → Write d s b r e → e.plate ≡ d.plate
+write_plate : (d e : Disk) (s : ℕ) (b : List ℕ) (r : Answer) → Write d s b r e → e.plate ≡ d.plate
 write_plate d e s b (Ok u) w = w.plate
 write_plate d e s b (Err (Power o)) w = (changed_cut d e s b o w).plate
 write_plate d e s b (Err (Misaddressed t o)) w = ap (λ (x : Disk). x.plate) w.same
 write_plate d e s b (Err Unfit) w = absurd w
 write_plate d e s b (Err (Spoiled t o)) w = absurd w
+
+-- so held sectors stay sectors of the disk below in a read and a write of it
+pub fits_wrote : (d e : Disk) (s : ℕ) (b : List ℕ) (r : Answer) (ls : List Slot) → Write d s b r e → Fits d ls → Fits e ls
+fits_wrote d e s b r ls w f = fits_still d e ls (write_plate d e s b r w) f
+
+pub fits_read : (d e : Disk) (s : ℕ) (before after : List ℕ) (r : Answer) (ls : List Slot) → Read d s before r e after → Fits d ls → Fits e ls
+fits_read d e s before after r ls w f = fits_still d e ls (read_plate d e s before after r w) f

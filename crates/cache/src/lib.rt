@@ -1,6 +1,6 @@
 // A write cache over any device: it holds up to eight sectors, and sends them down in turn.
 
-#![tactic(auto)]
+#![tactic(auto, using(crate::proofs::Slots::fits_wrote, crate::proofs::Slots::fits_read, crate::proofs::Slots::fits_rest, crate::proofs::Calls::restarts))]
 
 ghost use Rattle.cache.specs.Held.{Fits, Fits-prop};
 ghost use Rattle.std.specs.Prelude.{◌≡◌, ◌<◌, true, [], length};

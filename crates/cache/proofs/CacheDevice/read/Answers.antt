@@ -1,10 +1,8 @@
 -- A held sector is what the cache shows; another is read below.
 use Rattle.std.proofs.Common.{◌≡◌, false, length, Some, refl, inl, rules}
-use Rattle.device.proofs.Changes.{read_plate}
 use Rattle.cache.specs.Held.{kept, is_held}
 use Rattle.cache.specs.Exact.{FromHeld}
 use Rattle.cache.specs.State.{state}
-use Rattle.cache.proofs.Slots.{fits_still}
 use Rattle.cache.proofs.Calls.{made, asked, read_held, read_below}
 use Rattle.cache.proofs.CacheDevice.read.Goals as goal
 
@@ -17,12 +15,6 @@ returns-in-Some g c =
     let w : FromHeld s c.args.sector c.args.buffer.now s after =
     record { asked = asked s _ c.args.sector n c.sectors.ensures.exact c.in_ok-admit.ensures; found = k; same = refl } in
     record { meaning = read_held s c.args.sector c.args.buffer.now after w; exact = inl w }
-
-pub invariant_of-self-2 : goal.invariant_of-self-2
-invariant_of-self-2 g c =
-    let d = g.D.Device.disk c.args.self.now.below in
-    let e = g.D.Device.disk c.read.new.self in
-    record { sound = fits_still d e c.args.self.now.held.items (read_plate d e _ _ _ _ c.read.ensures) c.args.self.now.sound }
 
 pub returns : goal.returns
 returns g c =
