@@ -177,7 +177,3 @@ pub quiet_settled : (d e : Disk) (plan : List Act) → Done d (plan ++ (settled 
 quiet_settled d e plan h =
     let parts = done_split d e plan (settled ∷ []) h in
     (done_one parts.0 e settled parts.2).quiet
-
--- a quiet device shows each choice of what may stand on it
-pub quiet_choice : (e : Disk) → Quiet e → (shows : ℕ → Shown) → Choice e shows → (i : ℕ) → shows i ≡ e.shows i
-quiet_choice e quiet shows c i = quiet i (shows i) (c i)

@@ -6,7 +6,7 @@ use Rattle.record.specs.Entry.{Entry, reads_as}
 use Rattle.record.specs.Calls.{Answered, Told}
 use Rattle.record.specs.Good.{Good, Sound}
 use Rattle.record.specs.declared.Record.{Record}
-use Rattle.record.proofs.Laws.{found_good, found_bad, kind_good, good_sound, good_kind, good_or_not, zeros_bad}
+use Rattle.record.proofs.Laws.{found_good, found_bad, kind_good, good_sound, zeros_bad}
 use Rattle.journal.specs.Log.{nothing, said, if_serial, log}
 use Rattle.journal.specs.Notes.{found_entry}
 use Rattle.journal.specs.Opening.{Here}
@@ -18,9 +18,6 @@ said_good n p bytes g = found_good n p bytes g
 
 pub said_bad : (n p : ℕ) (bytes : List ℕ) → (Good n p bytes → ⊥) → said n p (holds bytes) ≡ nothing
 said_bad n p bytes b = found_bad n p bytes b
-
-pub said_spoiled : (n p : ℕ) → said n p spoiled ≡ nothing
-said_spoiled n p = refl
 
 pub said_zeros : (n p : ℕ) → said n p (holds (replicate 128 0)) ≡ nothing
 said_zeros n p = said_bad n p (replicate 128 0) (zeros_bad n p)
@@ -37,16 +34,6 @@ sound n p spoiled h = absurd (omega arith)
 sound n p (holds bytes) h =
     let g = kind_good n p bytes h in
     subst (λ (e : Entry). Sound n p e) (sym (found_good n p bytes g)) (good_sound n p bytes g)
-
--- a place holds a record, or says nothing
-
-pub cases_said : (n p : ℕ) (x : Shown) → (said n p x ≡ nothing) ⊎ (1 ≤ (said n p x).kind)
-cases_said n p spoiled = inl refl
-cases_said n p (holds bytes) =
-    ⊎_elim
-    (λ g. inr (subst (λ (e : Entry). 1 ≤ e.kind) (sym (found_good n p bytes g)) (good_kind n p bytes g).0))
-    (λ b. inl (found_bad n p bytes b))
-    (good_or_not n p bytes)
 
 -- a log with no places holds nothing
 pub no_places : (p : ℕ) (x : Shown) → said 0 p x ≡ nothing

@@ -129,16 +129,14 @@ module _ (notes : List (Option Note)) (low s : ℕ) (pages : List Bool) (from : 
             (cases_eq p x.page);
       }
 
-  pub covering_none_more : by_serial notes s ≡ None → Covering notes low (s + 1) pages
-  covering_none_more e = kept (λ p h x. none-some x.0 (sym e ∙ x.1))
-
-  pub covering_more : (x : Note) → by_serial notes s ≡ Some x → Covering notes low (s + 1) (with_page x pages)
-  covering_more x e =
+  pub covering_more : (o : Option Note) → o ≡ by_serial notes s → Covering notes low (s + 1) (with_page o pages)
+  covering_more None e = kept (λ p h x. none-some x.0 (e ∙ x.1))
+  covering_more (Some x) e =
       cond_both
       x.whole (set pages x.page true) pages (Covering notes low (s + 1))
       (λ whole.
       ⊎_elim
-      (λ lt. put x e whole lt)
-      (λ ge. subst (λ (ps : List Bool). Covering notes low (s + 1) ps) (sym (set_past pages x.page true (omega (arith, old.size)))) (kept (λ p h y. let same = same_Some y.0 x (sym y.1 ∙ e) in omega (arith, y.2, ap (λ (z : Note). z.page) same))))
+      (λ lt. put x (sym e) whole lt)
+      (λ ge. subst (λ (ps : List Bool). Covering notes low (s + 1) ps) (sym (set_past pages x.page true (omega (arith, old.size)))) (kept (λ p h y. let same = same_Some y.0 x (sym y.1 ∙ sym e) in omega (arith, y.2, ap (λ (z : Note). z.page) same))))
       (cases_lt x.page 64))
-      (λ part. kept (λ p h y. let same = same_Some y.0 x (sym y.1 ∙ e) in both_ways x.whole part (ap (λ (z : Note). z.whole) (sym same) ∙ y.3)))
+      (λ part. kept (λ p h y. let same = same_Some y.0 x (sym y.1 ∙ sym e) in both_ways x.whole part (ap (λ (z : Note). z.whole) (sym same) ∙ y.3)))

@@ -19,14 +19,14 @@ use Rattle.journal.proofs.Steps.{kind_some}
 
 -- a note, and the record that it tells of
 
-same_kind : (e : Entry) (o : Option Note) → Notes e o → kind_of_note o ≡ e.kind
+pub same_kind : (e : Entry) (o : Option Note) → Notes e o → kind_of_note o ≡ e.kind
 same_kind e None h = ap (λ (d : Entry). d.kind) (sym h)
 same_kind e (Some x) h = h.kind
 
-tells_of : (e : Entry) (o : Option Note) (x : Note) → o ≡ Some x → Notes e o → Tells e x
+pub tells_of : (e : Entry) (o : Option Note) (x : Note) → o ≡ Some x → Notes e o → Tells e x
 tells_of e o x is h = subst (λ (q : Option Note). Notes e q) is h
 
-has_note : (e : Entry) (o : Option Note) → Notes e o → 1 ≤ e.kind → (x : Note) × (o ≡ Some x) × Tells e x
+pub has_note : (e : Entry) (o : Option Note) → Notes e o → 1 ≤ e.kind → (x : Note) × (o ≡ Some x) × Tells e x
 has_note e None h k = absurd (omega (arith, same_kind e None h))
 has_note e (Some x) h k = (x, refl, h)
 

@@ -67,9 +67,10 @@ pub record Ended (notes : List (Option Note)) (low : ℕ) (end : Note) : Type 0 
   pub run : Running notes low end next
   pub gap : by_serial notes next ≡ None
 
--- The pages once this note's is counted as covered, if it is a whole one.
-abbrev pub with_page : Note → List Bool → List Bool
-with_page x pages = cond x.whole (slice_set pages x.page true) pages
+-- The pages once this note's is counted as covered, if there is one and it is of a whole page.
+abbrev pub with_page : Option Note → List Bool → List Bool
+with_page None pages = pages
+with_page (Some x) pages = cond x.whole (slice_set pages x.page true) pages
 
 -- A note from low up and below end is of all of page p.
 pub record Whole (notes : List (Option Note)) (low end p : ℕ) : Type 0 where

@@ -103,10 +103,13 @@ fn run_end(notes: &[Option<Note>], mark: Note) -> Note
     end
 }
 
-// Counts the note's page as covered, if the note is of a whole page.
-fn cover(pages: &mut [bool; PAGES], note: Note)
+// Counts the note's page as covered, if there is one and it is of a whole page.
+fn cover(pages: &mut [bool; PAGES], note: Option<Note>)
     ensures { pages.new ≡ with_page note pages.old }
 {
+    let Some(note) = note else {
+        return;
+    };
     let page = note.page as usize;
     // By index, since a proof is not told what is written through `get_mut` of an array.
     if note.whole && page < PAGES {
@@ -121,9 +124,7 @@ fn covered(notes: &[Option<Note>], low: u64, last: u64) -> [bool; PAGES]
 {
     let mut pages = [false; PAGES];
     for serial in low..=last {
-        if let Some(note) = find(notes, serial) {
-            cover(&mut pages, note);
-        }
+        cover(&mut pages, find(notes, serial));
     }
     pages
 }

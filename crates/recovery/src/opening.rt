@@ -18,8 +18,7 @@ fn inspect<D: Device>(device: &mut D, notes: &mut [Option<Note>]) -> Result<Surv
     ensures { Sees (length notes.new) (D.Device.disk device.old) (λ s. Noted (length notes.new) (D.Device.disk device.old).shows notes.new × Surveyed (length notes.new) (D.Device.disk device.old).shows s) result (D.Device.disk device.new) }
 {
     scan(device, notes)?;
-    let survey = survey_of(notes)?;
-    Ok(survey)
+    Ok(survey_of(notes)?)
 }
 
 // Makes the memory from the homes and the records of a log that was surveyed.

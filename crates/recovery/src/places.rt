@@ -9,7 +9,8 @@ pub(crate) const MOST: usize = 1024;
 
 const LEAST: usize = 160;
 
-// How many sectors a log has. The device's others, after them, are the homes of its pages.
+// How many sectors a log has. The device's others, after them, are the homes of its pages. That a device
+// has so many is asked where it is lent: a value that held both would owe that on every way out.
 #[derive(Clone, Copy)]
 pub(crate) struct Places {
     pub(crate) count: usize,
