@@ -1,20 +1,21 @@
 // Records that wait to be written.
 ghost use Rattle.std.specs.Prelude.{◌+◌, ◌<◌, ◌≤◌};
+ghost use Rattle.arrayvec.specs.ArrayVec.{array_vec_len};
 
 use arrayvec::ArrayVec;
+use image::PAGE;
 
 // A part of a transaction, with its bytes as they were at commit. It gets its serial and low when it is written.
-#[derive(Clone, Copy)]
+#[derive(Drop)]
 pub struct Spooled {
     pub ordinal: u64,
     pub page: u16,
     pub offset: u16,
-    pub size: u16,
     pub last: bool,
-    pub bytes: [u8; 96],
+    pub bytes: ArrayVec<u8, PAGE>,
     ghost paged: { page < 64 },
-    ghost some: { 1 ≤ size },
-    ghost within: { offset + size ≤ 96 },
+    ghost some: { 1 ≤ array_vec_len bytes },
+    ghost within: { offset + array_vec_len bytes ≤ 96 },
 }
 
 // What stands where no part was put yet.
@@ -24,9 +25,8 @@ impl Default for Spooled {
             ordinal: 0,
             page: 0,
             offset: 0,
-            size: 1,
             last: false,
-            bytes: [0; 96],
+            bytes: ArrayVec::from([0; PAGE]),
         }
     }
 }

@@ -5,7 +5,8 @@ ghost use Rattle.image.specs.Cut.{FitsPage, AllPieces};
 ghost use Rattle.transactions.specs.Parts.{part, parts, item_of, waiting};
 
 use crate::spool::{Spool, Spooled};
-use image::{MEMORY, Piece, Pieces};
+use arrayvec::ArrayVec;
+use image::{MEMORY, PAGE, Piece, Pieces};
 
 // The parts of a transaction join what waits, in their order.
 pub(crate) fn take_in(spool: &mut Spool, ordinal: u64, memory: &[u8; MEMORY], pieces: &Pieces)
@@ -19,15 +20,13 @@ pub(crate) fn take_in(spool: &mut Spool, ordinal: u64, memory: &[u8; MEMORY], pi
     }
 }
 
-// So many bytes from `start` on, and zeros after them.
-fn copied(memory: &[u8; MEMORY], start: usize, size: usize) -> [u8; 96]
+// So many bytes from `start` on.
+fn copied(memory: &[u8; MEMORY], start: usize, size: usize) -> ArrayVec<u8, PAGE>
     requires few { size ≤ 96 }
     requires inside { start + size ≤ 6144 }
-    ensures { take size result ≡ take size (drop start memory.now) }
+    ensures { result.items ≡ take size (drop start memory.now) }
 {
-    let mut bytes = [0u8; 96];
-    bytes[..size].copy_from_slice(&memory[start..start + size]);
-    bytes
+    ArrayVec::try_from(&memory[start..start + size]).unwrap()
 }
 
 // A piece of the memory as a part that waits, with a copy of its bytes.
@@ -39,7 +38,6 @@ fn spooled(ordinal: u64, memory: &[u8; MEMORY], piece: &Piece, last: bool) -> Sp
         ordinal,
         page: piece.page() as u16,
         offset: piece.offset() as u16,
-        size: piece.size as u16,
         last,
         bytes: copied(memory, piece.start, piece.size),
     }

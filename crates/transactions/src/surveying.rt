@@ -66,7 +66,7 @@ fn note_part(pages: &mut [Page; PAGES], item: &Spooled)
 {
     let said = Page {
         named: true,
-        covered: item.size == 96,
+        covered: item.bytes.is_full(),
     };
     tell(pages, item.page as usize, said);
 }

@@ -29,7 +29,7 @@ fn write_spooled<D: Device>(
         page: item.page,
         offset: item.offset,
         last: item.last,
-        bytes: &item.bytes[..item.size as usize],
+        bytes: &item.bytes,
     };
     write_record(device, log.places, &record)
 }
