@@ -16,7 +16,6 @@ pub enum Answer<'a> {
     Found(u64, usize),
     Shown(Shown<'a>),
     Dump(Dump<'a>),
-    BadLine,
     NotNow,
 }
 
@@ -32,7 +31,6 @@ impl fmt::Display for Answer<'_> {
             Answer::Found(found, strays) => write!(f, "ok {found} {strays}"),
             Answer::Shown(shown) => write!(f, "{shown}"),
             Answer::Dump(dump) => write!(f, "{dump}"),
-            Answer::BadLine => f.write_str("bad line"),
             Answer::NotNow => f.write_str("not now"),
         }
     }

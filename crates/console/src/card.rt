@@ -96,7 +96,7 @@ impl fmt::Display for Dump<'_> {
         for (sector, (bytes, flag)) in self.0.sectors.iter().zip(&self.0.flags).enumerate() {
             let shown = Shown::of(bytes, *flag);
             if !shown.is_blank() {
-                write!(f, "{sector} {shown}\n")?;
+                writeln!(f, "{sector} {shown}")?;
             }
         }
         f.write_str("end")

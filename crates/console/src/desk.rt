@@ -26,13 +26,13 @@ impl<'a> Desk<'a> {
         self.rt.alloc()
     }
 
-    // The next command, or none at the end of the input. A line that is none is told so and passed over.
+    // The next command, or none at the end of the input. A line that is no command is answered so, and passed over.
     pub fn next_command(&mut self) -> anyhow::Result<Option<Command>> {
         for line in self.lines.by_ref() {
             match parse(self.rt.alloc(), line?.as_slice()) {
                 Ok(Some(command)) => return Ok(Some(command)),
                 Ok(None) => {}
-                Err(LineFault::Bad) => println!(self.rt; "{}", Answer::BadLine)?,
+                Err(fault @ LineFault::Bad) => println!(self.rt; "{fault}")?,
                 Err(fault) => return Err(fault.into()),
             }
         }

@@ -60,7 +60,7 @@ fn obey(desk: &mut Desk, cards: &mut Cards, command: Command) -> anyhow::Result<
     match command {
         Command::Card(side, command) => match cards.obey(desk.heap(), side, command) {
             Ok(answer) => desk.say(&answer),
-            Err(LineFault::Bad) => desk.say(&Answer::BadLine),
+            Err(fault @ LineFault::Bad) => desk.say(&fault),
             Err(fault) => Err(fault.into()),
         },
         Command::Use(shape) => use_shape(desk, cards, shape),
@@ -71,6 +71,7 @@ fn obey(desk: &mut Desk, cards: &mut Cards, command: Command) -> anyhow::Result<
 fn main(rt: HostRuntime) -> anyhow::Result<()> {
     let mut desk = Desk::new(&rt);
     let mut cards = Cards::new(rt.alloc(), CARD_SECTORS)?;
+    // Counted, as in `serve::hold`.
     for _ in 0..u64::MAX {
         let Some(command) = desk.next_command()? else {
             return Ok(());

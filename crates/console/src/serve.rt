@@ -23,7 +23,7 @@ fn call<D: Device>(device: &mut D, command: DeviceCommand) -> Result<Answer<'sta
 // A store that is open in the console's sense, be it off: works through the input until it is closed, and
 // gives its device; or none where the pile is let go or the input ends.
 fn hold<D: Device + Drop>(desk: &mut Desk, store: Store<D>) -> anyhow::Result<Option<D>> {
-    // A loop must be seen to end, and the input is not, hence the count.
+    // A count ends the loop: by a `while let`, each function down to here would promise what is left to read.
     for _ in 0..u64::MAX {
         match desk.next_command()? {
             None => return Ok(None),
@@ -79,6 +79,7 @@ fn obey<D: Device + Drop>(
 // input ends.
 fn serve<D: Device + Drop>(desk: &mut Desk, mut device: D) -> anyhow::Result<()> {
     desk.say(&Answer::Count(device.sectors()))?;
+    // Counted, as in `hold`.
     for _ in 0..u64::MAX {
         let Some(command) = desk.next_command()? else {
             return Ok(());

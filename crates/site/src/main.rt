@@ -8,7 +8,7 @@ use device::{Device, DeviceFault, SECTOR};
 use mirror::Mirror;
 use std::fmt;
 
-mod recovery;
+mod reopening;
 
 // Where the story keeps its line of text, and how many sectors a card has.
 const PLACE: usize = 5;
@@ -135,5 +135,5 @@ fn tell_pair(rt: &HostRuntime) -> anyhow::Result<()> {
 fn main(rt: HostRuntime) -> anyhow::Result<()> {
     tell_pair(&rt)?;
     println!(rt; "")?;
-    recovery::tell_recovery(&rt)
+    reopening::tell_reopening(&rt)
 }

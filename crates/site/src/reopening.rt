@@ -91,7 +91,7 @@ fn tell_opening(rt: &HostRuntime, card: &mut Card) -> anyhow::Result<()> {
 }
 
 // A card is formatted, a transaction is cut, and so is the opening after it while it clears the strays.
-pub fn tell_recovery(rt: &HostRuntime) -> anyhow::Result<()> {
+pub fn tell_reopening(rt: &HostRuntime) -> anyhow::Result<()> {
     let mut card = Card::blank(rt.alloc(), SECTORS, 1)?;
     println!(rt; "a new card is formatted")?;
     let new = format_card(&mut card).map(|()| "its memory is all zeros, its log has one mark");
