@@ -2,6 +2,7 @@
 
 #![tactic(auto)]
 
+use bench::Bench;
 use cache::Cache;
 use cards::Card;
 use device::{Device, DeviceFault, SECTOR};
@@ -105,11 +106,29 @@ fn tell<D: Device + Drop>(rt: &HostRuntime, mut device: D) -> anyhow::Result<()>
     tell_reading(rt, &mut device)
 }
 
+// The story over a pile on two devices. Where they are named, with the bytes that they borrow, a cache over them
+// gets no proof.
+fn tell_pile<L: Device + Drop, R: Device + Drop>(
+    rt: &HostRuntime,
+    left: L,
+    right: R,
+) -> anyhow::Result<()> {
+    tell(rt, Cache::new(Mirror::new(left, right)))
+}
+
+// A device over each card. Where both are refused, the left one's refusal answers.
+fn devices<'a>(
+    left: &'a mut Card,
+    right: &'a mut Card,
+) -> Result<(Bench<'a>, Bench<'a>), DeviceFault> {
+    Ok((left.device()?, right.device()?))
+}
+
 // The story over two cards in their slots.
 fn tell_slots(rt: &HostRuntime, left: &mut Card, right: &mut Card) -> anyhow::Result<()> {
-    match (left.device(), right.device()) {
-        (Ok(l), Ok(r)) => tell(rt, Cache::new(Mirror::new(l, r))),
-        (Err(fault), _) | (_, Err(fault)) => say(rt, Err(Refusal(fault))),
+    match devices(left, right) {
+        Ok((l, r)) => tell_pile(rt, l, r),
+        Err(fault) => say(rt, Err(Refusal(fault))),
     }
 }
 
