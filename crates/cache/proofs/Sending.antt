@@ -24,9 +24,6 @@ pub record Sent (c c' : State) : Type 0 where
   pub on : c'.on ≡ true
   pub told : c'.told ≡ c.told
 
-pub sent_none : (c : State) → c.on ≡ true → Sent c c
-sent_none c on = record { sent = []; split = refl; done = refl; was_on = on; on = on; told = refl }
-
 pub sent_more : (c m c' : State) → Sent c m → SentOne m c' → Sent c c'
 sent_more c m c' w one =
     record {

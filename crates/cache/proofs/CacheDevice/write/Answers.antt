@@ -1,5 +1,5 @@
 -- A write of a held sector, or of one that is taken in, once there is room.
-use Rattle.std.proofs.Common.{◌≡◌, ◌<◌, ◌≤◌, false, true, ◌++◌, ◌∷◌, [], length, sym, refl, ap, ◌∙◌, inl, inr, arith, rules}
+use Rattle.std.proofs.Common.{◌≡◌, false, true, ◌++◌, ◌∷◌, [], length, refl, ap, ◌∙◌, inl, rules}
 use Rattle.std.proofs.lemmas.Result.{err_from_is_err_and}
 use Rattle.device.proofs.Changes.{still_addressed}
 use Rattle.cache.specs.declared.held.Slot.{Slot}
