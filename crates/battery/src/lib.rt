@@ -24,7 +24,7 @@ impl Battery {
         ensures { New origin result }
     {
         Battery {
-            sectors: [[0; SECTOR]; SECTORS],
+            sectors: [[0u8; SECTOR]; SECTORS],
             origin,
         }
     }

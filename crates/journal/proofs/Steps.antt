@@ -3,10 +3,11 @@ use Rattle.std.proofs.Common.{◌≡◌, ℕ, ◌+◌, ◌%◌, ◌^◌, ◌<◌
 use Rattle.std.proofs.lemmas.List.{get_or-replicate, set_past}
 use Rattle.std.proofs.lemmas.Option.{none-some, cond_some, same_Some}
 use Rattle.std.proofs.lemmas.Bool.{cases_lt, cases_eq, both_ways, eqb-true, ltb-true, cond_both}
-use Rattle.journal.specs.declared.note.Kind.{Kind}
-use Rattle.journal.specs.declared.note.Kind.TheVariants.{Part, Last, Page, Mark}
+use Rattle.record.specs.declared.label.Kind.{Kind}
+use Rattle.record.specs.declared.label.Kind.TheVariants as kinds
+use Rattle.record.specs.Kind.{code_of}
 use Rattle.journal.specs.declared.note.Note.{Note}
-use Rattle.journal.specs.Notes.{kind_number, kind_of_note, if_noted}
+use Rattle.journal.specs.Notes.{kind_of_note, if_noted}
 use Rattle.journal.specs.Survey.{by_serial, kind_of, Running, with_page, Whole, Covering}
 
 -- a note that is found by its serial has that serial, which is in bounds
@@ -29,14 +30,14 @@ there notes s x e =
 
 -- the run from low up
 
-kind_there : (notes : List (Option Note)) (s : ℕ) (x : Note) → by_serial notes s ≡ Some x → kind_of notes s ≡ kind_number x.kind
+kind_there : (notes : List (Option Note)) (s : ℕ) (x : Note) → by_serial notes s ≡ Some x → kind_of notes s ≡ code_of x.kind
 kind_there notes s x e = ap kind_of_note e
 
-pub kind_some : (k : Kind) → 1 ≤ kind_number k
-kind_some Part = lit≤ tt
-kind_some Last = lit≤ tt
-kind_some Page = lit≤ tt
-kind_some Mark = lit≤ tt
+pub kind_some : (k : Kind) → 1 ≤ code_of k
+kind_some kinds.More = lit≤ tt
+kind_some kinds.Last = lit≤ tt
+kind_some kinds.Whole = lit≤ tt
+kind_some kinds.Mark = lit≤ tt
 
 module _ (notes : List (Option Note)) (low : ℕ) (end next : Note) (serial : ℕ) (run : Running notes low end serial) (found : by_serial notes serial ≡ Some next) where
   further : (s : ℕ) → low ≤ s → s < serial + 1 → 1 ≤ kind_of notes s
@@ -46,7 +47,7 @@ module _ (notes : List (Option Note)) (low : ℕ) (end next : Note) (serial : �
       (λ ge. let e : serial ≡ s = omega arith in subst (λ x. 1 ≤ kind_of notes x) e (omega (arith, kind_there notes serial next found, kind_some next.kind)))
       (cases_lt s serial)
 
-  pub run_closes : 2 ≤ kind_number next.kind → Running notes low next (serial + 1)
+  pub run_closes : 2 ≤ code_of next.kind → Running notes low next (serial + 1)
   run_closes ends =
       let t = there notes serial next found in
       record {
@@ -59,7 +60,7 @@ module _ (notes : List (Option Note)) (low : ℕ) (end next : Note) (serial : �
         greatest = λ s a b. absurd (omega (arith, t.0));
       }
 
-  pub run_goes : kind_number next.kind ≤ 1 → Running notes low end (serial + 1)
+  pub run_goes : code_of next.kind ≤ 1 → Running notes low end (serial + 1)
   run_goes part =
       record {
         from = run.from;

@@ -2,27 +2,19 @@
 use Rattle.std.specs.Prelude.{◌≡◌, ℕ, ◌<◌, List, length, Some, None, Option, ◌==◌, slice_index_or, if◌then◌else◌}
 use Rattle.device.specs.Disk.{Shown}
 use Rattle.record.specs.Entry.{Entry, entry}
+use Rattle.record.specs.Kind.{code_of}
 use Rattle.record.specs.declared.Record.{Record}
 use Rattle.journal.specs.Log.{nothing, said}
-use Rattle.journal.specs.declared.note.Kind.{Kind}
-use Rattle.journal.specs.declared.note.Kind.TheVariants.{Part, Last, Page, Mark}
 use Rattle.journal.specs.declared.note.Note.{Note}
 
--- The number by which a record's kind goes.
-abbrev pub kind_number : Kind → ℕ
-kind_number Part = 1
-kind_number Last = 2
-kind_number Page = 3
-kind_number Mark = 4
-
--- The same of a note; 0 where there is none.
+-- The number of a note's kind in the format; 0 where there is no note.
 abbrev pub kind_of_note : Option Note → ℕ
 kind_of_note None = 0
-kind_of_note (Some x) = kind_number x.kind
+kind_of_note (Some x) = code_of x.kind
 
 -- The note tells of this record all that the analysis of a log asks.
 pub record Tells (e : Entry) (x : Note) : Type 0 where
-  pub kind : kind_number x.kind ≡ e.kind
+  pub kind : code_of x.kind ≡ e.kind
   pub serial : x.head.serial ≡ e.serial
   pub low : x.head.low ≡ e.low
   pub ordinal : x.head.ordinal ≡ e.ordinal

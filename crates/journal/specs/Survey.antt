@@ -1,5 +1,6 @@
 -- What an analysis of the notes finds: of the notes themselves, and of the log that they tell of.
 use Rattle.std.specs.Prelude.{◌≡◌, ℕ, ◌+◌, ◌%◌, ◌^◌, ◌<◌, ◌≤◌, Bool, true, false, cond, List, length, Some, None, Ok, Err, Option, Result, nat_le, nat_lt, slice_index_or, slice_set}
+use Rattle.record.specs.Kind.{code_of}
 use Rattle.device.specs.Disk.{Shown}
 use Rattle.record.specs.declared.Head.{Head}
 use Rattle.journal.specs.declared.note.Note.{Note}
@@ -7,7 +8,7 @@ use Rattle.journal.specs.declared.survey.Survey.{Survey}
 use Rattle.journal.specs.declared.survey.LogFault.{LogFault}
 use Rattle.journal.specs.declared.survey.LogFault.TheVariants.{NoLog, NoMark}
 use Rattle.journal.specs.Log.{log}
-use Rattle.journal.specs.Notes.{kind_number, kind_of_note, if_noted}
+use Rattle.journal.specs.Notes.{kind_of_note, if_noted}
 use Rattle.journal.specs.Opening.{Names, Runs, Covers, HasNoLog, HasNoMark}
 
 -- The note with serial s, where its place has it; none where that has another, or none.
@@ -58,7 +59,7 @@ pub record Running (notes : List (Option Note)) (low : ℕ) (end : Note) (next :
   pub unbroken : (s : ℕ) → low ≤ s → s < next → 1 ≤ kind_of notes s
   pub bound : next ≤ 2 ^ 63
   pub found : by_serial notes end.head.serial ≡ Some end
-  pub ends : 2 ≤ kind_number end.kind
+  pub ends : 2 ≤ code_of end.kind
   pub greatest : (s : ℕ) → end.head.serial < s → s < next → kind_of notes s ≤ 1
 
 -- The same, and no note follows.

@@ -7,7 +7,7 @@ ghost use Rattle.journal.specs.Opening.{Determined};
 mod note;
 mod survey;
 
-pub use note::{Kind, Note, PAGE, look_at, note_of, of_serial, record_at};
+pub use note::{Note, PAGE, look_at, note_of, of_serial, record_at};
 pub use survey::{LogFault, PAGES, Survey, survey_of};
 
 // Names the theorem that what an opening finds is determined by what the sectors show.

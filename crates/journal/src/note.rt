@@ -5,20 +5,10 @@ ghost use Rattle.journal.specs.Notes.{Notes, Tells, found_entry, if_noted};
 ghost use Rattle.record.specs.Entry.{entry};
 ghost use Rattle.std.specs.Prelude.{◌≡◌};
 
-use record::{Head, Record};
+use record::{Head, Kind, Record};
 
 // The number of bytes in a page.
 pub const PAGE: usize = 96;
-
-#[derive(Clone, Copy, PartialEq, Eq, Debug)]
-pub enum Kind {
-    // A part of a transaction with more parts to come.
-    Part,
-    // The last part of a transaction.
-    Last,
-    Page,
-    Mark,
-}
 
 #[derive(Clone, Copy)]
 pub struct Note {
@@ -33,23 +23,15 @@ impl From<Record<'_>> for Note {
     ghost from_gives = { λ r x. Tells (entry r) x };
 
     fn from(record: Record<'_>) -> Self {
-        let (kind, page, whole) = match record {
-            Record::Part {
-                page,
-                last,
-                bytes,
-                ..
-            } => (
-                if last { Kind::Last } else { Kind::Part },
-                page,
-                bytes.len() == PAGE,
-            ),
-            Record::Page { page, bytes, .. } => (Kind::Page, page, bytes.len() == PAGE),
-            Record::Mark { .. } => (Kind::Mark, 0, false),
+        let (page, whole) = match record {
+            Record::Part { page, bytes, .. } | Record::Page { page, bytes, .. } => {
+                (page, bytes.len() == PAGE)
+            }
+            Record::Mark { .. } => (0, false),
         };
         Note {
             head: record.head(),
-            kind,
+            kind: record.kind(),
             page,
             whole,
         }

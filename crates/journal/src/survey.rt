@@ -2,11 +2,12 @@
 // pages it covers. The notes are any notes: nothing here rests on their being those of a log.
 ghost use Rattle.std.specs.Prelude.{◌≡◌, ℕ, ◌+◌, ◌^◌, ◌<◌, ◌≤◌, length, nat_le, Some};
 ghost use Rattle.device.specs.Disk.{Shown};
-ghost use Rattle.journal.specs.Notes.{kind_number, Noted};
+ghost use Rattle.journal.specs.Notes.{Noted};
+ghost use Rattle.record.specs.Kind.{code_of};
 ghost use Rattle.journal.specs.Survey.{by_serial, later_of, Topped, Named, Ended, with_page, Covering, Analysed, Surveys};
 
-use crate::note::{Kind, Note, of_serial};
-use record::Head;
+use crate::note::{Note, of_serial};
+use record::{Head, Kind};
 
 // The number of pages in the memory.
 pub const PAGES: usize = 64;
@@ -38,9 +39,9 @@ pub struct Survey {
 
 // Whether a record of this kind ends a transaction or stands alone.
 fn closes(kind: Kind) -> bool
-    ensures { result ≡ nat_le 2 (kind_number kind) }
+    ensures { result ≡ nat_le 2 (code_of kind) }
 {
-    kind != Kind::Part
+    kind != Kind::More
 }
 
 // The note of the record with this serial, which only the serial's own place can hold.
@@ -88,7 +89,7 @@ fn named(notes: &[Option<Note>]) -> Option<u64>
 // a gap.
 fn run_end(notes: &[Option<Note>], mark: Note) -> Note
     requires found { by_serial notes.now mark.head.serial ≡ Some mark }
-    requires ends { 2 ≤ kind_number mark.kind }
+    requires ends { 2 ≤ code_of mark.kind }
     ensures { Ended notes.now mark.head.serial result }
 {
     let mut end = mark;

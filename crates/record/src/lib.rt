@@ -5,13 +5,15 @@
 ghost use Rattle.std.specs.Prelude.{◌≡◌, length};
 ghost use Rattle.record.specs.Entry.{entry};
 ghost use Rattle.record.specs.Calls.{Answered, Told, Written};
+ghost use Rattle.record.specs.Kind.{code_of};
 ghost use Rattle.record.specs.Label.{Judged, Labels, spelled};
 
 mod label;
 mod layout;
 pub mod theorems;
 
-use label::{Kind, Label};
+pub use label::Kind;
+use label::Label;
 use layout::lay_out;
 
 // The number of bytes in a sector.
@@ -80,6 +82,18 @@ impl<'a> Record<'a> {
         }
     }
 
+    // The record's kind.
+    pub fn kind(&self) -> Kind
+        ensures { code_of result ≡ (entry self.now).kind }
+    {
+        match *self {
+            Record::Part { last: false, .. } => Kind::More,
+            Record::Part { last: true, .. } => Kind::Last,
+            Record::Page { .. } => Kind::Whole,
+            Record::Mark { .. } => Kind::Mark,
+        }
+    }
+
     // The record's own bytes.
     fn bytes(&self) -> &'a [u8]
         ensures { result.now ≡ (entry self.now).bytes }
@@ -94,17 +108,12 @@ impl<'a> Record<'a> {
     fn label(&self) -> Option<Label>
         ensures { Labels (entry self.now) result }
     {
-        let (kind, page, offset) = match *self {
-            Record::Part {
-                page,
-                offset,
-                last,
-                ..
-            } => (if last { Kind::Last } else { Kind::More }, page, offset),
-            Record::Page { page, .. } => (Kind::Whole, page, 0),
-            Record::Mark { .. } => (Kind::Mark, 0, 0),
+        let (page, offset) = match *self {
+            Record::Part { page, offset, .. } => (page, offset),
+            Record::Page { page, .. } => (page, 0),
+            Record::Mark { .. } => (0, 0),
         };
-        Label::new(self.head(), kind, page, offset, self.bytes().len())
+        Label::new(self.head(), self.kind(), page, offset, self.bytes().len())
     }
 
     // The record with this label and these bytes.

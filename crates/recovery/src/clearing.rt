@@ -28,7 +28,7 @@ fn blank_strays<D: Device>(
     let mut count = 0;
     for (place, note) in notes.iter().enumerate() {
         if is_stray(*note, last) {
-            device.write(place, &[0; SECTOR])?;
+            device.write(place, &[0u8; SECTOR])?;
             count += 1;
         }
     }

@@ -19,7 +19,7 @@ fn zero_all<D: Device>(device: &mut D, sectors: usize) -> Result<(), DeviceFault
 {
     // By index: the sectors of a device are no slice.
     for sector in 0..sectors {
-        device.write(sector, &[0; SECTOR])?;
+        device.write(sector, &[0u8; SECTOR])?;
     }
     Ok(())
 }

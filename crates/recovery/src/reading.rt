@@ -44,7 +44,8 @@ fn put_page(memory: &mut [u8; MEMORY], page: usize, sector: &[u8; SECTOR])
     put_bytes(memory, page * PAGE, &sector[..PAGE]);
 }
 
-// Starts a page from its home; false where that is spoiled, and then from zeros.
+// Starts a page from its home; false where that is spoiled, and then from zeros. A yes or no that the caller
+// asks beside its own: an Option of nothing would be no plainer.
 fn load_home<D: Device>(
     device: &mut D,
     places: Places,
@@ -56,7 +57,7 @@ fn load_home<D: Device>(
     ensures { Looks (D.Device.disk device.old) (HomeLoaded (D.Device.disk device.old) places.count page memory.old memory.new) result (D.Device.disk device.new) }
 {
     let home = fetch(device, places.home_of(page))?;
-    put_page(memory, page, &home.unwrap_or([0; SECTOR]));
+    put_page(memory, page, &home.unwrap_or([0u8; SECTOR]));
     Ok(home.is_some())
 }
 

@@ -12,7 +12,7 @@ use crate::pages::{Dirty, PAGES, Page};
 use crate::spool::{Spool, Spooled};
 use crate::state::State;
 use device::{Device, DeviceFault};
-use journal::Kind;
+use record::Kind;
 use recovery::note_at;
 
 // Notes what a record says of a page, where there is such a page.
