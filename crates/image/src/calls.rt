@@ -3,9 +3,10 @@ ghost use Rattle.image.specs.Calls.{declared, none, Declares, Writes, Reads, Res
 ghost use Rattle.image.specs.Cut.{cut_runs};
 ghost use Rattle.std.specs.Prelude.{◌≡◌, [], replicate};
 
-use crate::run::{ImageFault, MEMORY, Run};
+use crate::run::{ImageFault, Run};
 use crate::runs::{Pieces, Runs};
 use crate::state::Image;
+use journal::MEMORY;
 
 impl Image {
     // A memory of zeros, with nothing declared.

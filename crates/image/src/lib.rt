@@ -10,7 +10,9 @@ mod run;
 mod runs;
 mod state;
 
-pub use run::{ImageFault, MEMORY, PAGE, Piece, Run};
+pub use journal::MEMORY;
+pub use record::PAGE;
+pub use run::{ImageFault, Piece, Run};
 pub use runs::{PIECES, Pieces, RUNS, Runs};
 pub use state::Image;
 

@@ -5,12 +5,8 @@ ghost use Rattle.image.specs.Cut.{cut};
 ghost use Rattle.image.specs.Stretch.{Stretches};
 
 use crate::runs::Pieces;
-
-// The number of bytes in the memory: 64 pages of 96.
-pub const MEMORY: usize = 6144;
-
-// The number of bytes in a page.
-pub const PAGE: usize = 96;
+use journal::MEMORY;
+use record::PAGE;
 
 // The bytes from `from` up to, and not with, `to`.
 #[derive(Clone, Copy, PartialEq, Eq, Debug, Default)]
@@ -49,6 +45,7 @@ impl Run {
         ensures { pieces.new.items ≡ pieces.old.items ++ cut 64 self.now.from self.now.to }
     {
         let mut from = self.from;
+        // No iterator of the library goes by the bounds of pages.
         while from < self.to {
             let end = ((from / PAGE + 1) * PAGE).min(self.to);
             pieces.push(Piece {

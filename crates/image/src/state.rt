@@ -2,8 +2,8 @@
 ghost use Rattle.std.specs.Prelude.{◌≡◌, ℕ, length, slice_index};
 ghost use Rattle.image.specs.Runs.{Declared};
 
-use crate::run::MEMORY;
 use crate::runs::Runs;
+use journal::MEMORY;
 
 // The two differ in declared bytes alone.
 #[derive(Drop)]

@@ -7,8 +7,12 @@ ghost use Rattle.journal.specs.Opening.{Determined};
 mod note;
 mod survey;
 
-pub use note::{Note, PAGE, look_at, note_of, of_serial, record_at};
-pub use survey::{LogFault, PAGES, Survey, survey_of};
+pub use note::{Note, look_at, note_of, of_serial, record_at};
+use record::{PAGE, PAGES};
+pub use survey::{LogFault, Survey, survey_of};
+
+// The number of bytes in the memory that a log keeps.
+pub const MEMORY: usize = PAGES * PAGE;
 
 // Names the theorem that what an opening finds is determined by what the sectors show.
 pub fn finding_is_determined()

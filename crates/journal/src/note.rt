@@ -5,10 +5,7 @@ ghost use Rattle.journal.specs.Notes.{Notes, Tells, found_entry, if_noted};
 ghost use Rattle.record.specs.Entry.{entry};
 ghost use Rattle.std.specs.Prelude.{◌≡◌};
 
-use record::{Head, Kind, Record};
-
-// The number of bytes in a page.
-pub const PAGE: usize = 96;
+use record::{Head, Kind, PAGE, Record};
 
 #[derive(Clone, Copy)]
 pub struct Note {

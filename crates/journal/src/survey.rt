@@ -7,13 +7,7 @@ ghost use Rattle.record.specs.Kind.{code_of};
 ghost use Rattle.journal.specs.Survey.{by_serial, later_of, Topped, Named, Ended, with_page, Covering, Analysed, Surveys};
 
 use crate::note::{Note, of_serial};
-use record::{Head, Kind};
-
-// The number of pages in the memory.
-pub const PAGES: usize = 64;
-
-// Serials end where the sign of a 64-bit number would begin.
-const SERIALS: u64 = 0x8000_0000_0000_0000;
+use record::{Head, Kind, PAGES, SERIALS};
 
 // Why the notes show no log.
 #[derive(Clone, Copy, PartialEq, Eq, Debug)]

@@ -3,15 +3,8 @@ ghost use Rattle.std.specs.Prelude.{◌≡◌, ◌+◌, ◌<◌, ◌≤◌, ◌�
 ghost use Rattle.record.specs.Good.{Placed, Fits};
 ghost use Rattle.record.specs.Kind.{code_of, Decoded};
 
-use crate::{DATA, Head, SECTOR};
-
-// The number of bytes in a page: all that a sector has room for.
-const PAGE: usize = SECTOR - DATA;
-
-const PAGES: u16 = 64;
-
-// Serials stay below this, so that one more never wraps.
-const SERIALS: u64 = 0x8000_0000_0000_0000;
+use crate::{Head, PAGE, PAGES, SERIALS};
+use device::SECTOR;
 
 // The kinds: a part of a transaction with more parts to come, its last part, a whole page, a mark.
 #[derive(Clone, Copy, PartialEq, Eq, Debug)]
@@ -69,7 +62,7 @@ fn within(page: u16, offset: u16, length: usize) -> bool
 {
     let offset = offset as usize;
     // The two tests on the offset, since a sum with a length that is not known yet could wrap.
-    page < PAGES && 1 <= length && offset <= PAGE && length <= PAGE - offset
+    (page as usize) < PAGES && 1 <= length && offset <= PAGE && length <= PAGE - offset
 }
 
 impl Head {

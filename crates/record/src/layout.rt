@@ -5,7 +5,8 @@ ghost use Rattle.record.specs.Fields.{digits};
 ghost use Rattle.record.specs.Label.{spelled};
 
 use crate::label::Label;
-use crate::{DATA, Head, SECTOR};
+use crate::{DATA, Head};
+use device::SECTOR;
 
 // Puts bytes into the sector from `at` on.
 #[tactic(auto, using(std::proofs::lemmas::Slice::overwrites))]

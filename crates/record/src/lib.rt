@@ -12,15 +12,22 @@ mod label;
 mod layout;
 pub mod theorems;
 
+use device::SECTOR;
 pub use label::Kind;
 use label::Label;
 use layout::lay_out;
 
-// The number of bytes in a sector.
-pub const SECTOR: usize = 128;
-
 // Where a record's own bytes begin, after its label.
 const DATA: usize = 32;
+
+// The number of bytes in a page: all that a sector has room for.
+pub const PAGE: usize = SECTOR - DATA;
+
+// The number of pages.
+pub const PAGES: usize = 64;
+
+// Serials stay below this, where the sign of a 64-bit number would begin, so that one more never wraps.
+pub const SERIALS: u64 = 0x8000_0000_0000_0000;
 
 // What every record tells of its log: its own serial, the oldest serial needed when it was written,
 // and the number of the last transaction by then.

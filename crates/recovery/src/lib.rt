@@ -2,8 +2,6 @@
 
 #![tactic(auto)]
 
-use journal::{PAGE, PAGES};
-
 mod clearing;
 mod fault;
 mod format;
@@ -13,8 +11,6 @@ mod reading;
 
 pub use fault::RecoveryFault;
 pub use format::{format_log, write_record};
+pub use journal::MEMORY;
 pub use opening::open_log;
 pub use reading::note_at;
-
-// The number of bytes in the memory.
-pub const MEMORY: usize = PAGES * PAGE;

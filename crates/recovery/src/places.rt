@@ -2,7 +2,7 @@
 ghost use Rattle.std.specs.Prelude.{◌≡◌, ◌+◌, ◌%◌, ◌<◌, ◌≤◌};
 
 use crate::fault::RecoveryFault;
-use journal::PAGES;
+use record::PAGES;
 
 // The most sectors that a log may have, and the fewest.
 pub(crate) const MOST: usize = 1024;

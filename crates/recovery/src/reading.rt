@@ -13,8 +13,8 @@ use crate::MEMORY;
 use crate::fault::RecoveryFault;
 use crate::places::Places;
 use device::{Device, DeviceFault, SECTOR};
-use journal::{Note, PAGE, Survey, look_at, of_serial};
-use record::Record;
+use journal::{Note, Survey, look_at, of_serial};
+use record::{PAGE, Record};
 
 // The bytes of a sector, or none where it is spoiled.
 fn fetch<D: Device>(device: &mut D, sector: usize) -> Result<Option<[u8; SECTOR]>, DeviceFault>

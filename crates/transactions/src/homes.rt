@@ -7,7 +7,7 @@ ghost use Rattle.record.specs.Entry.{laid_out};
 ghost use Rattle.transactions.specs.Truncation.{page_item};
 
 use crate::log::Log;
-use device::{Device, DeviceFault};
+use device::{Device, DeviceFault, SECTOR};
 use image::{MEMORY, PAGE};
 use record::Record;
 use recovery::write_record;
@@ -53,12 +53,12 @@ pub(crate) fn write_pages<D: Device>(
 }
 
 // The sector of a page's home: its bytes, and zeros after them.
-fn home_of(memory: &[u8; MEMORY], page: usize) -> [u8; 128]
+fn home_of(memory: &[u8; MEMORY], page: usize) -> [u8; SECTOR]
     requires { page < 64 }
     ensures { result ≡ home_of memory.now page }
 {
     let start = page * PAGE;
-    let mut sector = [0u8; 128];
+    let mut sector = [0u8; SECTOR];
     sector[0..PAGE].copy_from_slice(&memory[start..start + PAGE]);
     sector
 }

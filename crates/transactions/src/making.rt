@@ -8,6 +8,7 @@ use crate::spool::Spool;
 use crate::state::State;
 use device::Device;
 use image::{Image, MEMORY};
+use record::PAGES;
 use recovery::{format_log, open_log};
 
 // A store that is off, with nothing in it. The number of places is any that a log may have.
@@ -62,7 +63,7 @@ pub(crate) fn open_into<D: Device>(
     let (survey, strays) = open_log(device, &mut memory)?;
     state.image = Image::of(memory);
     state.log = Log {
-        places: sectors - 64,
+        places: sectors - PAGES,
         low: survey.low,
         last: survey.last,
         ordinal: survey.ordinal,

@@ -2,9 +2,7 @@
 ghost use Rattle.std.specs.Prelude.{◌≡◌, ◌<◌, slice_index, EachIndex};
 
 use arrayvec::ArrayVec;
-
-// How many pages the memory has.
-pub(crate) const PAGES: usize = 64;
+use record::PAGES;
 
 // What records say of a page: one names it, one covers it.
 #[derive(Clone, Copy, PartialEq, Eq, Debug, Default)]

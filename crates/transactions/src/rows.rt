@@ -10,12 +10,13 @@ use crate::spool::SPOOL;
 use crate::state::State;
 use device::DeviceFault;
 use image::Pieces;
+use record::{PAGES, SERIALS};
 
 // The greatest serial.
-const MOST: u64 = 0x7fff_ffff_ffff_ffff;
+const MOST: u64 = SERIALS - 1;
 
 // Records that a truncation may need: a page record for each page, and a mark.
-const RESERVE: usize = 65;
+const RESERVE: usize = PAGES + 1;
 
 impl State {
     // Where the store is off, nothing else is looked at.

@@ -8,11 +8,11 @@ ghost use Rattle.transactions.specs.Parts.{item_of};
 ghost use Rattle.transactions.specs.State.{OnLog};
 
 use crate::log::Log;
-use crate::pages::{Dirty, PAGES, Page};
+use crate::pages::{Dirty, Page};
 use crate::spool::{Spool, Spooled};
 use crate::state::State;
 use device::{Device, DeviceFault};
-use record::Kind;
+use record::{Kind, PAGES};
 use recovery::note_at;
 
 // Notes what a record says of a page, where there is such a page.

@@ -5,8 +5,9 @@ ghost use Rattle.image.specs.Runs.{Declared};
 ghost use Rattle.image.specs.Cut.{cut_runs};
 
 use super::{Pieces, Runs};
-use crate::run::{MEMORY, Run};
+use crate::run::Run;
 use arrayvec::ArrayVec;
+use journal::MEMORY;
 
 impl Runs {
     pub(crate) fn new() -> Runs
