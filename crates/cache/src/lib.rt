@@ -3,7 +3,7 @@
 #![tactic(auto, using(crate::proofs::Slots::fits_wrote, crate::proofs::Slots::fits_read, crate::proofs::Slots::fits_rest, crate::proofs::Calls::restarts))]
 
 ghost use Rattle.cache.specs.Held.{Fits, Fits-prop};
-ghost use Rattle.std.specs.Prelude.{◌≡◌, ◌<◌, true, [], length};
+ghost use Rattle.std.specs.Prelude.{◌≡◌, ◌<◌, true, false, [], length};
 
 mod held;
 
@@ -25,7 +25,10 @@ pub struct Cache<D: Device> {
 }
 
 impl<D: Device> Cache<D> {
-    ghost use Rattle.cache.specs.State.{state};
+    ghost use Rattle.cache.specs.Exact.{Asked, Reads, Barriers};
+    ghost use Rattle.cache.specs.Held.{is_held};
+    ghost use Rattle.cache.specs.State.{state, disk_of};
+    ghost use Rattle.device.specs.Meaning.{Read, Barrier};
     ghost use Rattle.cache.specs.Steps.{SendsOne, MakesRoom};
 
     // A cache over this device that is on and holds nothing.
@@ -63,6 +66,28 @@ impl<D: Device> Cache<D> {
         }
         Ok(())
     }
+
+    // Reads a sector that is not held.
+    fn read_below(&mut self, sector: usize, buffer: &mut [u8]) -> Result<(), DeviceFault>
+        requires asked { Asked (state self.old) sector (length buffer.old) }
+        requires absent { is_held sector self.old.held.items ≡ false }
+        ensures meaning { Read (disk_of (state self.old)) sector buffer.old result (disk_of (state self.new)) buffer.new }
+        ensures exact { Reads (state self.old) sector buffer.old result (state self.new) buffer.new }
+    {
+        self.power.hand_up(self.below.read(sector, buffer))
+    }
+
+    // Sends all held sectors down, the longest held first, and settles them there.
+    fn empty(&mut self) -> Result<(), DeviceFault>
+        requires { self.old.power.on ≡ true }
+        ensures meaning { Barrier (disk_of (state self.old)) result (disk_of (state self.new)) }
+        ensures exact { Barriers (state self.old) result (state self.new) }
+    {
+        while !self.held.is_empty() {
+            self.send_one()?;
+        }
+        self.power.hand_up(self.below.barrier())
+    }
 }
 
 impl<D: Device> Device for Cache<D> {
@@ -88,7 +113,7 @@ impl<D: Device> Device for Cache<D> {
             buffer.copy_from_slice(&slot.bytes);
             return Ok(());
         }
-        self.power.hand_up(self.below.read(sector, buffer))
+        self.read_below(sector, buffer)
     }
 
     fn write(&mut self, sector: usize, bytes: &[u8]) -> Result<(), DeviceFault>
@@ -113,10 +138,7 @@ impl<D: Device> Device for Cache<D> {
         if !self.power.on {
             return Err(DeviceFault::Power(ORIGIN));
         }
-        while !self.held.is_empty() {
-            self.send_one()?;
-        }
-        self.power.hand_up(self.below.barrier())
+        self.empty()
     }
 
     fn restart(&mut self) -> Result<(), DeviceFault>

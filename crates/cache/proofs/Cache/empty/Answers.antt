@@ -6,7 +6,7 @@ use Rattle.std.proofs.lemmas.Result.{err_from_is_err_and}
 use Rattle.cache.specs.State.{state}
 use Rattle.cache.proofs.Calls.{made}
 use Rattle.cache.proofs.Sending.{sent_more, stopped, finished}
-use Rattle.cache.proofs.CacheDevice.barrier.Goals as goal
+use Rattle.cache.proofs.Cache.empty.Goals as goal
 
 pub loop-self-preserved : goal.loop-self-preserved
 loop-self-preserved g c = sent_more _ _ _ c.loop-self.invariant c.in_ok-send_one.ensures

@@ -2,7 +2,7 @@
 use Rattle.std.proofs.Common.{length}
 use Rattle.cache.specs.State.{state}
 use Rattle.cache.proofs.Sending.{Sent}
-use Rattle.cache.proofs.CacheDevice.barrier.Given as goal
+use Rattle.cache.proofs.Cache.empty.Given as goal
 
 -- some are sent down
 abbrev pub invariant-loop-self : goal.invariant-loop-self
