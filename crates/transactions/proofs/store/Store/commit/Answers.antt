@@ -6,4 +6,4 @@ pub invariant_of-self : goal.invariant_of-self
 invariant_of-self g c =
     let s = c.args.self.now in
     let t = c.commit_store.new in
-    record { lies = commit_lies s.state t.state (g.D.Device.disk s.device) (g.D.Device.disk t.device) c.spend.result c.args.flush c.commit_store.result s.lies c.commit_store.ensures }
+    record { lies = commit_lies s.state t.state (g.D.Device.disk s.device) (g.D.Device.disk t.device) c.spend.result _ c.commit_store.result s.lies c.commit_store.ensures }
