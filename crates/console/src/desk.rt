@@ -4,22 +4,23 @@ use crate::command::{Command, parse};
 use crate::words::LineFault;
 use std::alloc::Global;
 use std::fmt;
-use std::io::{BufRead, Split, StdinLock};
+use std::io::{BufRead, BufReader, Split, Stdin};
 use transactions::StoreFault;
 
 // The runtime, and the lines of its standard input that are not read yet.
 #[derive(Drop)]
 pub struct Desk<'a> {
     rt: &'a HostRuntime,
-    lines: Split<StdinLock<'static>>,
+    lines: Split<BufReader<Stdin>>,
 }
 
 impl<'a> Desk<'a> {
-    pub fn new(rt: &'a HostRuntime) -> Self {
-        Desk {
+    pub fn new(rt: &'a HostRuntime) -> anyhow::Result<Self> {
+        let input = BufReader::new(rt.alloc(), rt.stdin())?;
+        Ok(Desk {
             rt,
-            lines: rt.reader().split(rt.alloc(), b'\n'),
-        }
+            lines: input.split(rt.alloc(), b'\n'),
+        })
     }
 
     pub fn heap(&self) -> Global {

@@ -69,7 +69,7 @@ fn obey(desk: &mut Desk, cards: &mut Cards, command: Command) -> anyhow::Result<
 }
 
 fn main(rt: HostRuntime) -> anyhow::Result<()> {
-    let mut desk = Desk::new(&rt);
+    let mut desk = Desk::new(&rt)?;
     let mut cards = Cards::new(rt.alloc(), CARD_SECTORS)?;
     // Counted, as in `serve::hold`.
     // A loop must be seen to end, and the input is not, hence the count.
