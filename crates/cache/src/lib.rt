@@ -83,6 +83,7 @@ impl<D: Device> Cache<D> {
         ensures meaning { Barrier (disk_of (state self.old)) result (disk_of (state self.new)) }
         ensures exact { Barriers (state self.old) result (state self.new) }
     {
+        // No iterator, since one that can't be sent down stays held.
         while !self.held.is_empty() {
             self.send_one()?;
         }

@@ -43,7 +43,7 @@ fn use_caches<L: Device + Drop, R: Device + Drop>(
     )
 }
 
-// Puts a pile together from the cards, and serves it.
+// Puts a pile together from the cards, and serves it. A match, since each shape is a type of its own.
 fn use_shape(desk: &mut Desk, cards: &mut Cards, shape: Shape) -> anyhow::Result<()> {
     match shape {
         Shape::Battery(origin) => put_in_use(desk, Ok(Battery::new(origin))),

@@ -15,7 +15,7 @@ pub enum DeviceFault {
 }
 
 impl DeviceFault {
-    // The number of this refusal in the table of refusals.
+    // The number of this refusal in the table of refusals, which is promised beside the enum and made of it alone.
     pub fn number(&self) -> u8
         ensures { result ≡ number self.now }
     {

@@ -127,6 +127,7 @@ fn cache_sends_down_in_turn(rt: HostRuntime) -> Result<(), Fail> {
     let mut card = Card::blank(rt.alloc(), 10, 3)?;
     card.plan = vec![in rt.alloc(); 1]?;
     let mut device = Cache::new(card.device()?);
+    // Numbers of sectors, which index nothing.
     for sector in 0..8usize {
         assert_eq!(rt; play(&mut device, Call::Write(sector, 1)), Ok(Reply::Done));
     }

@@ -5,7 +5,7 @@ ghost use Rattle.image.specs.Runs.{Declared};
 use crate::runs::Runs;
 use journal::MEMORY;
 
-// The two differ in declared bytes alone.
+// The two differ in declared bytes alone. They are one memory at two times, and no pairs of bytes.
 #[derive(Drop)]
 pub struct Image {
     pub memory: [u8; MEMORY],

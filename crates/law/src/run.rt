@@ -19,6 +19,7 @@ impl<D: Device> Run<D> {
     fn with_token(mut self, slot: Slot, deed: Deed) -> (Self, Answer)
         ensures { Stepped (Call.With slot deed.entry) (moment_of self) result.1 (moment_of result.0) }
     {
+        // Each arm moves another token, which a borrow of the place couldn't.
         match slot {
             Slot::First => {
                 let (first, answer) = act(&mut self.store, self.first, deed);

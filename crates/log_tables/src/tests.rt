@@ -266,6 +266,7 @@ fn openings(rt: HostRuntime) -> Result<(), Fail> {
 fn reads<D: Device + Drop>(device: D) -> Result<(Opening, usize), DeviceFault> {
     let mut device = Counted::new(device);
     lay(&mut device, 1024, 1, 0, Kind::Mark)?;
+    // Serials, which index nothing.
     for serial in 2..1025u64 {
         lay(&mut device, 1024, serial, serial - 1, Kind::Last)?;
     }

@@ -9,6 +9,7 @@ use crate::Mirror;
 use device::{Device, DeviceFault};
 
 // One function with the steps as closures is no plainer than these: its contract would speak of what each step answers.
+// Each says that it leaves the power alone: a struct of the two sides for these four alone is no plainer.
 impl<L: Device, R: Device> Mirror<L, R> {
     // Writes a sector on the right side, settles it there, and only then writes it on the left.
     pub(crate) fn write_in_turn(&mut self, sector: usize, bytes: &[u8]) -> Result<(), DeviceFault>

@@ -28,6 +28,7 @@ impl From<DeviceFault> for RecoveryFault {
     }
 }
 
+// Case by case: nested, a refusal would have another shape for each crate that finds it.
 impl From<LogFault> for RecoveryFault {
     ghost from_gives = { λ f r. r ≡ from_log f };
 
@@ -40,7 +41,7 @@ impl From<LogFault> for RecoveryFault {
 }
 
 impl RecoveryFault {
-    // The number of this refusal in the table of refusals.
+    // The number of this refusal in the table of refusals, which is promised beside the enum and made of it alone.
     pub fn number(&self) -> u8
         ensures { result ≡ number self.now }
     {

@@ -26,7 +26,8 @@ impl Places {
         (serial % self.count as u64) as usize
     }
 
-    // The sector that is this page's home.
+    // The sector that is this page's home. A page's number indexes arrays of 64 wherever there is one, so a type
+    // for it would be made of an index and taken apart at once.
     pub(crate) fn home_of(self, page: usize) -> usize
         requires { page < 64 }
         ensures { result ≡ self.count + page }

@@ -45,6 +45,7 @@ impl From<DeviceFault> for StoreFault {
     }
 }
 
+// Case by case, here and below: nested, failing power would have two shapes, and a caller a match in a match.
 impl From<RecoveryFault> for StoreFault {
     ghost from_gives = { λ f r. r ≡ from_recovery f };
 
@@ -72,7 +73,7 @@ impl From<ImageFault> for StoreFault {
 }
 
 impl StoreFault {
-    // The number of this refusal in the table of refusals.
+    // The number of this refusal in the table of refusals, which is promised beside the enum and made of it alone.
     pub fn number(&self) -> u8
         ensures { result ≡ number self.now }
     {

@@ -18,7 +18,7 @@ pub struct Spooled {
     ghost within: { offset + array_vec_len bytes ≤ 96 },
 }
 
-// What stands where no part was put yet.
+// What stands where no part was put yet. By hand: a derive would make a part without bytes.
 impl Default for Spooled {
     fn default() -> Self {
         Spooled {

@@ -12,7 +12,7 @@ pub struct State {
     pub image: Image,
     pub spool: Spool,
     pub log: Log,
-    // A transaction is open.
+    // A transaction is open. Each pair of this and the next occurs, so an enum would name all four.
     pub busy: bool,
     // A store is off after failing power, and after a format or an opening that was refused.
     pub on: bool,
