@@ -78,6 +78,10 @@ next_seen {X = X} f xs ys i x here same h =
     subst (λ (zs : List X). drop i (map f zs) ≡ f x ∷ drop (i + 1) (map f zs)) same
     (drop_more (map f xs) i (f x) there ∙ ap (λ (y : Item). y ∷ drop (i + 1) (map f xs)) (get_or-map f xs i x (f x) h ∙ ap f (sym here)))
 
+-- the next of a list of numbers; ys is the list by another name
+pub next_left : (xs ys : List ℕ) (i : ℕ) → xs ≡ ys → i < length xs → drop i ys ≡ get_or xs i 0 ∷ drop (i + 1) ys
+next_left xs ys i same h = subst (λ (zs : List ℕ). drop i zs ≡ get_or xs i 0 ∷ drop (i + 1) zs) same (drop_more xs i 0 h)
+
 suc_add : (i : ℕ) → suc i + 1 ≡ suc (i + 1)
 suc_add i = omega arith
 

@@ -7,6 +7,7 @@ ghost use Rattle.transactions.specs.State.{spooled, own};
 ghost use Rattle.transactions.specs.Steps.{Over, PiecesOf};
 ghost use Rattle.transactions.specs.Truncation.{Truncated};
 
+use crate::pages::PageNumbers;
 use crate::spooling::take_in;
 use crate::state::State;
 use image::Pieces;
@@ -33,13 +34,12 @@ impl State {
         count
     }
 
-    // All that waited, so many page records and a mark are written: the log begins at the mark.
-    pub(crate) fn truncated(&mut self, due: usize)
-        requires few { due ≤ 64 }
+    // All that waited, the records of these pages and a mark are written: the log begins at the mark.
+    pub(crate) fn truncated(&mut self, due: &PageNumbers)
         requires bounded { self.old.log.last + array_vec_len self.old.spool + 65 < 2 ^ 63 }
-        ensures { Truncated self.old due self.new }
+        ensures { Truncated self.old (array_vec_len due.now.items) self.new }
     {
-        self.log.last = self.written_to() + due as u64 + 1;
+        self.log.last = self.written_to() + due.items.len() as u64 + 1;
         self.log.low = self.log.last;
         self.spool.clear();
         self.on = true;
