@@ -76,9 +76,9 @@ impl State {
 
     // There are serials, log and, where they are not written, spool for a record of each of these pieces.
     pub(crate) fn may_commit(&self, pieces: &Pieces, flush: bool) -> Result<(), StoreFault>
-        ensures { Passes (first_fit (commit_rows self.now (array_vec_len pieces.now) flush)) result }
+        ensures { Passes (first_fit (commit_rows self.now (array_vec_len pieces.now.items) flush)) result }
     {
-        let waiting = self.spool.len() + pieces.len();
+        let waiting = self.spool.len() + pieces.items.len();
         if self.log.last + waiting as u64 + RESERVE as u64 > MOST {
             return Err(StoreFault::Serials(self.log.last));
         }

@@ -1,7 +1,7 @@
 -- One stage after another.
-use Rattle.std.proofs.Common.{ℕ, List, ◌++◌, length, Err, subst}
+use Rattle.std.proofs.Common.{ℕ, List, ◌++◌, length, Err}
 use Rattle.std.proofs.lemmas.Result.{err_from_is_err_and}
-use Rattle.device.specs.Trace.{Act, Done, Tries}
+use Rattle.device.specs.Trace.{Act}
 use Rattle.device.proofs.Plans.{tries_after}
 use Rattle.durability.specs.Promises.{marking}
 use Rattle.transactions.specs.declared.state.State.{State}
