@@ -1,12 +1,14 @@
--- The ghost facts of runs, and what they say of each run and each byte.
-use Rattle.std.proofs.Common.{◌≡◌, ℕ, zero, suc, ◌+◌, ◌<◌, ◌≤◌, Bool, true, false, cond, ltb, leb, ◌⊎◌, List, [], ◌∷◌, length, get_or, drop, sym, refl, ap, ◌∙◌, subst, inl, inr, ⊎_elim, arith, add-one}
+-- The ghost facts of runs and pieces, and what they say of each run and each byte.
+use Rattle.std.proofs.Common.{◌≡◌, ℕ, zero, suc, ◌+◌, ◌/◌, ◌%◌, ◌<◌, ◌≤◌, Bool, true, false, cond, ltb, leb, ◌⊎◌, List, [], ◌∷◌, length, get_or, drop, sym, refl, ap, ◌∙◌, subst, inl, inr, ⊎_elim, arith, add-one}
 use mathlib.Core.Logic.{∥∥₁_elim, ∥∥₁_map}
 use mathlib.Core.HLevel.{⊥_prop}
 use Rattle.std.proofs.lemmas.Bool.{cases_lt, le-leb, lt-leb, lt-ltb, le-ltb}
 use Rattle.image.specs.declared.run.Run.{Run}
+use Rattle.image.specs.declared.run.Piece.{Piece}
 use Rattle.image.specs.declared.runs.Runs.{Runs}
 use Rattle.image.specs.Runs.{Declared, is_declared, Apart, Inside}
 use Rattle.image.specs.Calls.{listed}
+use Rattle.image.specs.Cut.{FitsPage, AllPieces}
 
 -- an order is one fact, so it comes out of a truncation
 pub le_out : (a b : ℕ) → ∥ a ≤ b ∥₁ → a ≤ b
@@ -23,6 +25,18 @@ apart_out floor (r ∷ rs) h =
 pub inside_out : (rs : List Run) → ∥ Inside rs ∥₁ → Inside rs
 inside_out [] h = tt
 inside_out (r ∷ rs) h = (le_out r.to 6144 (∥∥₁_map h (λ a. a.0)), inside_out rs (∥∥₁_map h (λ a. a.1)))
+
+-- a piece fits its page, and each of many does
+fits_out : (p : Piece) → ∥ FitsPage p ∥₁ → FitsPage p
+fits_out p h = record {
+  page = lt_out (p.start / 96) 64 (∥∥₁_map h (λ f. f.page));
+  some = le_out 1 p.size (∥∥₁_map h (λ f. f.some));
+  within = le_out (p.start % 96 + p.size) 96 (∥∥₁_map h (λ f. f.within));
+}
+
+pub all_out : (ps : List Piece) → ∥ AllPieces ps ∥₁ → AllPieces ps
+all_out [] h = tt
+all_out (p ∷ ps) h = (fits_out p (∥∥₁_map h (λ a. a.0)), all_out ps (∥∥₁_map h (λ a. a.1)))
 
 -- the run at place i
 pub some_at : (floor : ℕ) (rs : List Run) (i : ℕ) (d : Run) → Apart floor rs → i < length rs → (get_or rs i d).from < (get_or rs i d).to

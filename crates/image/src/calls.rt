@@ -87,7 +87,7 @@ impl Image {
 
     // The declared runs cut at the bounds of pages, the lowest first.
     pub fn pieces(&self) -> Pieces
-        ensures { result.items ≡ cut_runs (declared self.now) }
+        ensures { result.items.items ≡ cut_runs (declared self.now) }
     {
         self.runs.pieces()
     }

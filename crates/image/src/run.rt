@@ -4,7 +4,8 @@ ghost use Rattle.image.specs.Runs.{is_declared};
 ghost use Rattle.image.specs.Cut.{cut};
 ghost use Rattle.image.specs.Stretch.{Stretches};
 
-use crate::runs::Pieces;
+use crate::runs::PIECES;
+use arrayvec::ArrayVec;
 use journal::MEMORY;
 use record::PAGE;
 
@@ -39,7 +40,7 @@ impl Run {
     }
 
     // Puts the pieces of the run behind the others.
-    pub(crate) fn cut(&self, pieces: &mut Pieces)
+    pub(crate) fn cut(&self, pieces: &mut ArrayVec<Piece, PIECES>)
         requires inside { self.now.to ≤ 6144 }
         requires room { length pieces.old.items + length (cut 64 self.now.from self.now.to) ≤ 79 }
         ensures { pieces.new.items ≡ pieces.old.items ++ cut 64 self.now.from self.now.to }

@@ -1,5 +1,6 @@
 // The runs of declared bytes, and the pieces that they are cut into.
 ghost use Rattle.image.specs.Runs.{Apart, Inside};
+ghost use Rattle.image.specs.Cut.{AllPieces};
 
 mod calls;
 
@@ -20,5 +21,9 @@ pub struct Runs {
     ghost inside: { ∥ Inside items.items ∥₁ },
 }
 
-// The pieces of runs, the lowest first.
-pub type Pieces = ArrayVec<Piece, PIECES>;
+// The pieces of runs, the lowest first. Each has bytes, and lies in one page of the memory.
+#[derive(Drop)]
+pub struct Pieces {
+    pub items: ArrayVec<Piece, PIECES>,
+    ghost fit: { ∥ AllPieces items.items ∥₁ },
+}

@@ -2,7 +2,7 @@
 use Rattle.std.proofs.Common.{◌≡◌, ℕ, zero, suc, ◌+◌, ◌%◌, ◌<◌, ◌≤◌, Bool, false, cond, eqb, List, [], ◌∷◌, ◌++◌, map, length, get_or, take, drop, Err, sym, refl, ap, ◌∙◌, subst, ⊎_elim, arith, length-append, drop-cons}
 use Rattle.std.proofs.lemmas.Bool.{cases_eq, eq-eqb, ne_eqb}
 use Rattle.std.proofs.lemmas.List.{length-map, get_or-map, drop_all, drop_more, take_more}
-use Rattle.arrayvec.specs.ArrayVec.{ArrayVec, array_vec_len}
+use Rattle.arrayvec.specs.ArrayVec.{array_vec_len}
 use Rattle.device.specs.declared.fault.DeviceFault.{DeviceFault}
 use Rattle.device.specs.Disk.{Disk}
 use Rattle.device.specs.Trace.{Act, wrote, Done, Tries}
@@ -10,7 +10,9 @@ use Rattle.device.proofs.Plans.{Working, plan_goes, work_ends, work_cut, done_pl
 use Rattle.record.specs.Entry.{laid_out}
 use Rattle.durability.specs.Items.{Item, recorded, appending}
 use Rattle.image.specs.declared.run.Piece.{Piece}
+use Rattle.image.specs.declared.runs.Pieces.{Pieces}
 use Rattle.image.specs.Cut.{FitsPage, AllPieces, piece}
+use Rattle.image.proofs.Facts.{all_out}
 use Rattle.transactions.specs.declared.state.State.{State}
 use Rattle.transactions.specs.Parts.{Spool, part, parts, item_of, waiting}
 use Rattle.transactions.specs.State as state
@@ -78,6 +80,10 @@ next_seen {X = X} f xs ys i x here same h =
     subst (λ (zs : List X). drop i (map f zs) ≡ f x ∷ drop (i + 1) (map f zs)) same
     (drop_more (map f xs) i (f x) there ∙ ap (λ (y : Item). y ∷ drop (i + 1) (map f xs)) (get_or-map f xs i x (f x) h ∙ ap f (sym here)))
 
+-- the next of a list of numbers; ys is the list by another name
+pub next_left : (xs ys : List ℕ) (i : ℕ) → xs ≡ ys → i < length xs → drop i ys ≡ get_or xs i 0 ∷ drop (i + 1) ys
+next_left xs ys i same h = subst (λ (zs : List ℕ). drop i zs ≡ get_or xs i 0 ∷ drop (i + 1) zs) same (drop_more xs i 0 h)
+
 suc_add : (i : ℕ) → suc i + 1 ≡ suc (i + 1)
 suc_add i = omega arith
 
@@ -105,11 +111,14 @@ pub length_parts : (o : ℕ) (memory : List ℕ) (ps : List Piece) → length (p
 length_parts o memory [] = refl
 length_parts o memory (p ∷ ps) = ap suc (length_parts o memory ps)
 
--- a piece of many that all fit
-pub fits_at : (ps : List Piece) (i : ℕ) (d : Piece) → i < length ps → AllPieces ps → FitsPage (get_or ps i d)
-fits_at [] i d h all = absurd (omega arith)
-fits_at (p ∷ ps) zero d h (here, rest) = here
-fits_at (p ∷ ps) (suc i) d h (here, rest) = fits_at ps i d (omega arith) rest
+-- a piece of many fits its page; xs are the pieces by another name
+pub fits_at : (ps : Pieces) (xs : List Piece) (i : ℕ) (d : Piece) → xs ≡ ps.items.items → i < length xs → FitsPage (get_or xs i d)
+fits_at ps xs i d same h = go xs i h (subst AllPieces (sym same) (all_out ps.items.items ps.fit))
+  where
+    go : (ys : List Piece) (j : ℕ) → j < length ys → AllPieces ys → FitsPage (get_or ys j d)
+    go [] j l all = absurd (omega arith)
+    go (y ∷ ys) zero l (here, rest) = here
+    go (y ∷ ys) (suc j) l (here, rest) = go ys j (omega arith) rest
 
 -- the part at i of these n pieces
 abbrev pub part_at : ℕ → List ℕ → ℕ → List Piece → ℕ → Item
@@ -137,12 +146,12 @@ taken_part o memory n ps qs i e count h =
 pub length_waiting : (s : Spool) → length (waiting s) ≡ array_vec_len s
 length_waiting s = length-map s.items item_of
 
-pub own_is : (s : State) (ps : ArrayVec Piece) → PiecesOf s ps → parts (s.log.ordinal + 1) s.image.memory ps.items ≡ state.own s
+pub own_is : (s : State) (ps : Pieces) → PiecesOf s ps → parts (s.log.ordinal + 1) s.image.memory ps.items.items ≡ state.own s
 own_is s ps e = ap (λ (xs : List Piece). parts (s.log.ordinal + 1) s.image.memory xs) e
 
-pub length_of_own : (s : State) (ps : ArrayVec Piece) → PiecesOf s ps → length (state.own s) ≡ array_vec_len ps
-length_of_own s ps e = ap length (sym (own_is s ps e)) ∙ length_parts (s.log.ordinal + 1) s.image.memory ps.items
+pub length_of_own : (s : State) (ps : Pieces) → PiecesOf s ps → length (state.own s) ≡ array_vec_len ps.items
+length_of_own s ps e = ap length (sym (own_is s ps e)) ∙ length_parts (s.log.ordinal + 1) s.image.memory ps.items.items
 
-pub length_all : (s : State) (ps : ArrayVec Piece) → PiecesOf s ps → length (waiting s.spool ++ state.own s) ≡ array_vec_len s.spool + array_vec_len ps
+pub length_all : (s : State) (ps : Pieces) → PiecesOf s ps → length (waiting s.spool ++ state.own s) ≡ array_vec_len s.spool + array_vec_len ps.items
 length_all s ps e =
     omega (arith, length-append (waiting s.spool) (state.own s), length_waiting s.spool, length_of_own s ps e)

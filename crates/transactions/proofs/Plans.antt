@@ -2,7 +2,7 @@
 use Rattle.std.proofs.Common.{◌≡◌, ℕ, suc, ◌+◌, ◌-◌, ◌^◌, ◌<◌, ◌≤◌, Bool, true, false, cond, not, ltb, ◌≢◌, List, [], ◌∷◌, ◌++◌, map, length, Some, None, Err, Option, sym, refl, ap, ◌∙◌, subst, ⊎_elim, add-zero, arith}
 use Rattle.std.proofs.lemmas.Bool.{cases_lt, ltb-false}
 use Rattle.std.proofs.lemmas.List.{nil_from_length}
-use Rattle.arrayvec.specs.ArrayVec.{ArrayVec, array_vec_len}
+use Rattle.arrayvec.specs.ArrayVec.{array_vec_len}
 use Rattle.device.specs.declared.fault.DeviceFault.{DeviceFault}
 use Rattle.device.specs.declared.fault.DeviceFault.TheVariants.{Power, Misaddressed, Unfit, Spoiled}
 use Rattle.device.specs.Disk.{Disk}
@@ -10,10 +10,9 @@ use Rattle.device.specs.Meaning.{Answer, Barrier}
 use Rattle.device.specs.Trace.{Act, settled, Done, Tries}
 use Rattle.device.proofs.Plans.{work_begins, plan_cut, tries_after, barrier_tried, done_plate}
 use Rattle.durability.specs.Items.{Item, appending}
-use Rattle.image.specs.declared.run.Piece.{Piece}
-use Rattle.image.specs.Cut.{AllPieces}
-use Rattle.image.proofs.Cutting.{runs_fit, runs_none}
-use Rattle.image.proofs.Facts.{apart_out, inside_out}
+use Rattle.image.specs.declared.runs.Pieces.{Pieces}
+use Rattle.image.proofs.Cutting.{runs_none}
+use Rattle.image.proofs.Facts.{apart_out}
 use Rattle.image.specs.Calls.{declared}
 use Rattle.transactions.specs.declared.fault.StoreFault.{StoreFault}
 use Rattle.transactions.specs.declared.fault.StoreFault.TheVariants.{Device}
@@ -46,16 +45,16 @@ appending_two n low last (x ∷ xs) ys zs =
 abbrev pub spool_plan : State → List Act
 spool_plan s = appending s.log.places s.log.low s.log.last (waiting s.spool)
 
-abbrev pub pieces_after : State → ArrayVec Piece → ℕ → List Act
-pieces_after s ps last = appending s.log.places s.log.low last (parts (s.log.ordinal + 1) s.image.memory ps.items)
+abbrev pub pieces_after : State → Pieces → ℕ → List Act
+pieces_after s ps last = appending s.log.places s.log.low last (parts (s.log.ordinal + 1) s.image.memory ps.items.items)
 
 abbrev pub pages_after : State → ℕ → List ℕ → List Act
 pages_after s last ps = appending s.log.places s.log.low last (map (page_item s.log.ordinal s.image.memory) ps)
 
-abbrev pub piece_plan : State → ArrayVec Piece → List Act
+abbrev pub piece_plan : State → Pieces → List Act
 piece_plan s ps = pieces_after s ps (s.log.last + array_vec_len s.spool)
 
-pub commit_plan : (s : State) (ps : ArrayVec Piece) → PiecesOf s ps → writing s (waiting s.spool ++ state.own s) ≡ spool_plan s ++ (piece_plan s ps ++ (settled ∷ []))
+pub commit_plan : (s : State) (ps : Pieces) → PiecesOf s ps → writing s (waiting s.spool ++ state.own s) ≡ spool_plan s ++ (piece_plan s ps ++ (settled ∷ []))
 commit_plan s ps e =
     appending_two s.log.places s.log.low s.log.last (waiting s.spool) (state.own s) (settled ∷ [])
     ∙ ap (λ (k : ℕ). spool_plan s ++ (appending s.log.places s.log.low (s.log.last + k) (state.own s) ++ (settled ∷ []))) (length_waiting s.spool)
@@ -90,12 +89,6 @@ roomy s k flush h =
       spool = λ e. ltb-false 32 (array_vec_len s.spool + k) (subst (λ (x : Bool). cond x false (ltb 32 (array_vec_len s.spool + k)) ≡ false) e three.0);
     }
 
--- the pieces of what is declared fit their pages
-pub pieces_fit : (s : State) (ps : ArrayVec Piece) → PiecesOf s ps → AllPieces ps.items
-pieces_fit s ps e =
-    subst (λ (xs : List Piece). AllPieces xs) (sym e)
-    (runs_fit (declared s.image) (inside_out (declared s.image) s.image.runs.inside))
-
 -- power failed in writing
 pub writing_cut : (s s' : State) (d e : Disk) (items : List Item) (f : DeviceFault) → Tries d (writing s items) (Err f) e → s'.image ≡ s.image → s'.on ≡ false → CutWriting s d items (Device f) s' e
 writing_cut s s' d e items (Power o) h same off = record { origin = o; fault = refl; cut = h; image = same; off = off }
@@ -104,20 +97,20 @@ writing_cut s s' d e items Unfit h same off = absurd h
 writing_cut s s' d e items (Spoiled x o) h same off = absurd h
 
 -- something declared is at least one piece
-pub some_pieces : (s : State) (ps : ArrayVec Piece) → PiecesOf s ps → declared s.image ≢ [] → 1 ≤ array_vec_len ps
+pub some_pieces : (s : State) (ps : Pieces) → PiecesOf s ps → declared s.image ≢ [] → 1 ≤ array_vec_len ps.items
 some_pieces s ps e some =
     ⊎_elim
-    (λ (h : length ps.items < 1).
-    let none = nil_from_length ps.items (omega arith) in
+    (λ (h : length ps.items.items < 1).
+    let none = nil_from_length ps.items.items (omega arith) in
     absurd (some (runs_none (declared s.image) (apart_out 0 (declared s.image) s.image.runs.apart) (sym e ∙ none))))
     (λ h. h)
-    (cases_lt (length ps.items) 1)
+    (cases_lt (length ps.items.items) 1)
 
 -- the tests of a commit, by the records that the transaction becomes
-pub passes_own : (s : State) (ps : ArrayVec Piece) (flush : Bool) → PiecesOf s ps → first_fit (commit_rows s (array_vec_len ps) flush) ≡ None → first_fit (commit_rows s (length (state.own s)) flush) ≡ None
+pub passes_own : (s : State) (ps : Pieces) (flush : Bool) → PiecesOf s ps → first_fit (commit_rows s (array_vec_len ps.items) flush) ≡ None → first_fit (commit_rows s (length (state.own s)) flush) ≡ None
 passes_own s ps flush e h = subst (λ (k : ℕ). first_fit (commit_rows s k flush) ≡ None) (sym (length_of_own s ps e)) h
 
-pub refused_own : (s : State) (ps : ArrayVec Piece) (flush : Bool) (f : StoreFault) → PiecesOf s ps → first_fit (commit_rows s (array_vec_len ps) flush) ≡ Some f → first_fit (commit_rows s (length (state.own s)) flush) ≡ Some f
+pub refused_own : (s : State) (ps : Pieces) (flush : Bool) (f : StoreFault) → PiecesOf s ps → first_fit (commit_rows s (array_vec_len ps.items) flush) ≡ Some f → first_fit (commit_rows s (length (state.own s)) flush) ≡ Some f
 refused_own s ps flush f e h = subst (λ (k : ℕ). first_fit (commit_rows s k flush) ≡ Some f) (sym (length_of_own s ps e)) h
 
 -- a call that is past its first test is one of a store that is on

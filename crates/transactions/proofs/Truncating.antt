@@ -31,9 +31,9 @@ due_is s shows ps k =
     ap (λ (b : Bool). cond b (not (covered_in ps p)) false) (k.named p small)
     ∙ ap (λ (b : Bool). cond (is_dirty s shows p) (not b) false) (k.covered p small))
 
-pub plan_is : (s : State) (shows : ℕ → Shown) (x : Dirty) → FoundDirty s shows x → truncating s x.due.items x.pages.items ≡ truncation s shows
+pub plan_is : (s : State) (shows : ℕ → Shown) (x : Dirty) → FoundDirty s shows x → truncating s x.due.items.items x.pages.items.items ≡ truncation s shows
 plan_is s shows x k =
-    ap (λ (xs : List ℕ). truncating s xs x.pages.items) k.due ∙ ap (λ (xs : List ℕ). truncating s (due_pages s shows) xs) k.pages
+    ap (λ (xs : List ℕ). truncating s xs x.pages.items.items) k.due ∙ ap (λ (xs : List ℕ). truncating s (due_pages s shows) xs) k.pages
 
 -- a part that waits names a page
 first_waits : (s : Spool) → 1 ≤ array_vec_len s → (x : Spooled) × (rest : List Item) × (waiting s ≡ item_of x ∷ rest)
@@ -71,8 +71,8 @@ nothing_waits s shows e =
     (cases_lt (length s.spool.items) 1)
 
 -- where the list of dirty pages is not empty, some page is dirty
-pub some_dirty : (s : State) (shows : ℕ → Shown) (x : Dirty) → FoundDirty s shows x → eqb (length x.pages.items) 0 ≡ false → dirty_pages s shows ≢ []
-some_dirty s shows x k h none = eqb-false (length x.pages.items) 0 h (ap length k.pages ∙ ap length none)
+pub some_dirty : (s : State) (shows : ℕ → Shown) (x : Dirty) → FoundDirty s shows x → eqb (length x.pages.items.items) 0 ≡ false → dirty_pages s shows ≢ []
+some_dirty s shows x k h none = eqb-false (length x.pages.items.items) 0 h (ap length k.pages ∙ ap length none)
 
 -- power failed in the plan
 pub pages_cut : (s s' : State) (d e : Disk) (f : DeviceFault) → first_fit (crowded s (length (due_pages s d.shows)) ∷ []) ≡ None → dirty_pages s d.shows ≢ []

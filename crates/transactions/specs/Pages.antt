@@ -59,5 +59,5 @@ pub record Found (s : State) (shows : ℕ → Shown) (ps : List Page) : Type 0 w
 
 -- These are the dirty pages, and those that are due.
 pub record FoundDirty (s : State) (shows : ℕ → Shown) (x : Dirty) : Type 0 where
-  pub pages : x.pages.items ≡ dirty_pages s shows
-  pub due : x.due.items ≡ due_pages s shows
+  pub pages : x.pages.items.items ≡ dirty_pages s shows
+  pub due : x.due.items.items ≡ due_pages s shows

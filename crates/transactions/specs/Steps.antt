@@ -1,7 +1,6 @@
 -- What the inner steps of the calls do.
 use Rattle.std.specs.Prelude.{◌≡◌, ℕ, Bool, false, ◌⊎◌, Some, None, Ok, Err, Option, Result}
-use Rattle.arrayvec.specs.ArrayVec.{ArrayVec}
-use Rattle.image.specs.declared.run.Piece.{Piece}
+use Rattle.image.specs.declared.runs.Pieces.{Pieces}
 use Rattle.image.specs.Calls.{declared, Kept}
 use Rattle.image.specs.Cut.{cut_runs}
 use Rattle.transactions.specs.declared.fault.StoreFault.{StoreFault}
@@ -15,8 +14,8 @@ Passes fit (Ok _) = fit ≡ None
 Passes fit (Err f) = fit ≡ Some f
 
 -- These are the pieces of what is declared.
-abbrev pub PiecesOf : State → ArrayVec Piece → Type 0
-PiecesOf s ps = ps.items ≡ cut_runs (declared s.image)
+abbrev pub PiecesOf : State → Pieces → Type 0
+PiecesOf s ps = ps.items.items ≡ cut_runs (declared s.image)
 
 -- The transaction is over and its bytes stay.
 pub record Over (s s' : State) : Type 0 where

@@ -26,7 +26,7 @@ pub(crate) fn flush_out<D: Device>(device: &mut D, state: &State) -> Result<(), 
 // Writes all that waits and then the pieces of the transaction, and settles them.
 fn commit_out<D: Device>(device: &mut D, state: &State, pieces: &Pieces) -> Result<(), DeviceFault>
     requires pieces { PiecesOf state.now pieces.now }
-    requires passes { first_fit (commit_rows state.now (array_vec_len pieces.now) true) ≡ None }
+    requires passes { first_fit (commit_rows state.now (array_vec_len pieces.now.items) true) ≡ None }
     requires lies { OnLog state.now (D.Device.disk device.old) }
     ensures { Tries (D.Device.disk device.old) (writing state.now (spooled state.now ++ own state.now)) result (D.Device.disk device.new) }
 {
@@ -57,7 +57,7 @@ fn commit_flushed<D: Device>(
     pieces: &Pieces,
 ) -> Result<(u64, usize), StoreFault>
     requires pieces { PiecesOf state.old pieces.now }
-    requires passes { first_fit (commit_rows state.old (array_vec_len pieces.now) true) ≡ None }
+    requires passes { first_fit (commit_rows state.old (array_vec_len pieces.now.items) true) ≡ None }
     requires some { declared state.old.image ≢ [] }
     requires lies { OnLog state.old (D.Device.disk device.old) }
     ensures { PartsAnswer state.old (D.Device.disk device.old) true result state.new (D.Device.disk device.new) }

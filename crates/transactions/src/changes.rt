@@ -1,12 +1,12 @@
 // The changes of a store's state, apart from the device.
 ghost use Rattle.std.specs.Prelude.{◌≡◌, ◌+◌, ◌^◌, ◌<◌, ◌≤◌, true, ◌++◌, length};
 ghost use Rattle.arrayvec.specs.ArrayVec.{array_vec_len};
-ghost use Rattle.image.specs.Cut.{AllPieces};
 ghost use Rattle.transactions.specs.Calls.{Undone, Written, SpooledUp};
 ghost use Rattle.transactions.specs.State.{spooled, own};
 ghost use Rattle.transactions.specs.Steps.{Over, PiecesOf};
 ghost use Rattle.transactions.specs.Truncation.{Truncated};
 
+use crate::pages::PageNumbers;
 use crate::spooling::take_in;
 use crate::state::State;
 use image::Pieces;
@@ -33,13 +33,12 @@ impl State {
         count
     }
 
-    // All that waited, so many page records and a mark are written: the log begins at the mark.
-    pub(crate) fn truncated(&mut self, due: usize)
-        requires few { due ≤ 64 }
+    // All that waited, the records of these pages and a mark are written: the log begins at the mark.
+    pub(crate) fn truncated(&mut self, due: &PageNumbers)
         requires bounded { self.old.log.last + array_vec_len self.old.spool + 65 < 2 ^ 63 }
-        ensures { Truncated self.old due self.new }
+        ensures { Truncated self.old (array_vec_len due.now.items) self.new }
     {
-        self.log.last = self.written_to() + due as u64 + 1;
+        self.log.last = self.written_to() + due.items.len() as u64 + 1;
         self.log.low = self.log.last;
         self.spool.clear();
         self.on = true;
@@ -47,14 +46,14 @@ impl State {
 
     // All that waited and the transaction's records are written: it is over, and its bytes stay.
     pub(crate) fn committed(&mut self, pieces: &Pieces) -> (u64, usize)
-        requires bounded { self.old.log.last + array_vec_len self.old.spool + array_vec_len pieces.now < 2 ^ 63 }
-        requires some { 1 ≤ array_vec_len pieces.now }
+        requires bounded { self.old.log.last + array_vec_len self.old.spool + array_vec_len pieces.now.items < 2 ^ 63 }
+        requires some { 1 ≤ array_vec_len pieces.now.items }
         requires pieces { PiecesOf self.old pieces.now }
         ensures answer { result ≡ (self.old.log.ordinal + 1, length (own self.old)) }
         ensures written { Written self.old (spooled self.old ++ own self.old) (self.old.log.ordinal + 1) self.new }
         ensures over { Over self.old self.new }
     {
-        let records = pieces.len();
+        let records = pieces.items.len();
         self.log.last = self.written_to() + records as u64;
         self.spool.clear();
         self.log.ordinal += 1;
@@ -66,11 +65,10 @@ impl State {
 
     // The transaction's records wait: it is over, and its bytes stay.
     pub(crate) fn spooled_up(&mut self, pieces: &Pieces) -> (u64, usize)
-        requires room { array_vec_len self.old.spool + array_vec_len pieces.now ≤ 32 }
-        requires bounded { self.old.log.last + array_vec_len self.old.spool + array_vec_len pieces.now < 2 ^ 63 }
-        requires some { 1 ≤ array_vec_len pieces.now }
+        requires room { array_vec_len self.old.spool + array_vec_len pieces.now.items ≤ 32 }
+        requires bounded { self.old.log.last + array_vec_len self.old.spool + array_vec_len pieces.now.items < 2 ^ 63 }
+        requires some { 1 ≤ array_vec_len pieces.now.items }
         requires pieces { PiecesOf self.old pieces.now }
-        requires fit { AllPieces pieces.now.items }
         requires on { self.old.on ≡ true }
         ensures answer { result ≡ (self.old.log.ordinal + 1, length (own self.old)) }
         ensures spooled { SpooledUp self.old (own self.old) (self.old.log.ordinal + 1) self.new }
@@ -81,6 +79,6 @@ impl State {
         self.log.ordinal = ordinal;
         self.image.keep();
         self.busy = false;
-        (ordinal, pieces.len())
+        (ordinal, pieces.items.len())
     }
 }

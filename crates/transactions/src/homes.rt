@@ -1,5 +1,6 @@
 // Writing pages: their records into the log, and the pages themselves home.
-ghost use Rattle.std.specs.Prelude.{◌≡◌, ◌+◌, ◌%◌, ◌^◌, ◌<◌, ◌≤◌, [], ◌∷◌, map, length, slice_index, EachIndex};
+ghost use Rattle.std.specs.Prelude.{◌≡◌, ◌+◌, ◌%◌, ◌^◌, ◌<◌, ◌≤◌, [], ◌∷◌, map};
+ghost use Rattle.arrayvec.specs.ArrayVec.{array_vec_len};
 ghost use Rattle.device.specs.Trace.{Tries, wrote};
 ghost use Rattle.durability.specs.Items.{appending, recorded};
 ghost use Rattle.durability.specs.Promises.{home_of, homing};
@@ -7,6 +8,7 @@ ghost use Rattle.record.specs.Entry.{laid_out};
 ghost use Rattle.transactions.specs.Truncation.{page_item};
 
 use crate::log::Log;
+use crate::pages::PageNumbers;
 use device::{Device, DeviceFault, SECTOR};
 use image::{MEMORY, PAGE};
 use record::Record;
@@ -39,14 +41,13 @@ pub(crate) fn write_pages<D: Device>(
     log: &Log,
     last: u64,
     memory: &[u8; MEMORY],
-    pages: &[usize],
+    pages: &PageNumbers,
 ) -> Result<(), DeviceFault>
-    requires bounded { last + length pages.now < 2 ^ 63 }
-    requires inside { EachIndex pages.now (λ i. slice_index pages.now i < 64) }
+    requires bounded { last + array_vec_len pages.now.items < 2 ^ 63 }
     requires room { log.now.places ≤ (D.Device.disk device.old).plate.sectors }
-    ensures { Tries (D.Device.disk device.old) (appending log.now.places log.now.low last (map (page_item log.now.ordinal memory.now) pages.now)) result (D.Device.disk device.new) }
+    ensures { Tries (D.Device.disk device.old) (appending log.now.places log.now.low last (map (page_item log.now.ordinal memory.now) pages.now.items.items)) result (D.Device.disk device.new) }
 {
-    for (i, page) in pages.iter().enumerate() {
+    for (i, page) in pages.items.iter().enumerate() {
         write_page(device, log, last + 1 + i as u64, memory, *page)?;
     }
     Ok(())
@@ -83,14 +84,13 @@ pub(crate) fn write_homes<D: Device>(
     device: &mut D,
     places: usize,
     memory: &[u8; MEMORY],
-    pages: &[usize],
+    pages: &PageNumbers,
 ) -> Result<(), DeviceFault>
     requires few { places ≤ 1024 }
-    requires inside { EachIndex pages.now (λ i. slice_index pages.now i < 64) }
     requires room { places + 64 ≤ (D.Device.disk device.old).plate.sectors }
-    ensures { Tries (D.Device.disk device.old) (homing places memory.now pages.now) result (D.Device.disk device.new) }
+    ensures { Tries (D.Device.disk device.old) (homing places memory.now pages.now.items.items) result (D.Device.disk device.new) }
 {
-    for page in pages {
+    for page in pages.items.iter() {
         write_home(device, places, memory, *page)?;
     }
     Ok(())

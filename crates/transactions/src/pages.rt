@@ -1,5 +1,6 @@
 // Which pages records name, and which they cover whole.
-ghost use Rattle.std.specs.Prelude.{◌≡◌, ◌<◌, slice_index, EachIndex};
+ghost use Rattle.std.specs.Prelude.{◌≡◌, ◌<◌, ◌≤◌, slice_index, EachIndex};
+ghost use Rattle.arrayvec.specs.ArrayVec.{array_vec_len};
 
 use arrayvec::ArrayVec;
 use record::PAGES;
@@ -11,13 +12,19 @@ pub(crate) struct Page {
     pub covered: bool,
 }
 
-// The named pages by their numbers, and those of them that are not covered, the lowest first.
+// Pages of the memory by their numbers.
+#[derive(Drop)]
+pub(crate) struct PageNumbers {
+    pub items: ArrayVec<usize, PAGES>,
+    ghost few: { array_vec_len items ≤ 64 },
+    ghost inside: { EachIndex items.items (λ i. slice_index items.items i < 64) },
+}
+
+// The named pages, and those of them that are not covered, the lowest first.
 #[derive(Drop)]
 pub(crate) struct Dirty {
-    pub pages: ArrayVec<usize, PAGES>,
-    pub due: ArrayVec<usize, PAGES>,
-    ghost pages_inside: { EachIndex pages.items (λ i. slice_index pages.items i < 64) },
-    ghost due_inside: { EachIndex due.items (λ i. slice_index due.items i < 64) },
+    pub pages: PageNumbers,
+    pub due: PageNumbers,
 }
 
 impl Page {
@@ -40,8 +47,8 @@ impl Dirty {
 
     // The pages of which so much is said.
     pub(crate) fn of(pages: &[Page; PAGES]) -> Dirty
-        ensures pages { result.pages.items ≡ chosen (named_in pages.now) 0 64 }
-        ensures due { result.due.items ≡ chosen (needed pages.now) 0 64 }
+        ensures pages { result.pages.items.items ≡ chosen (named_in pages.now) 0 64 }
+        ensures due { result.due.items.items ≡ chosen (needed pages.now) 0 64 }
     {
         let mut dirty = ArrayVec::new();
         let mut due = ArrayVec::new();
@@ -53,6 +60,9 @@ impl Dirty {
                 }
             }
         }
-        Dirty { pages: dirty, due }
+        Dirty {
+            pages: PageNumbers { items: dirty },
+            due: PageNumbers { items: due },
+        }
     }
 }

@@ -6,6 +6,7 @@ ghost use Rattle.transactions.specs.Steps.{Passes};
 ghost use Rattle.transactions.specs.Truncation.{crowded};
 
 use crate::fault::StoreFault;
+use crate::pages::PageNumbers;
 use crate::spool::SPOOL;
 use crate::state::State;
 use device::DeviceFault;
@@ -61,12 +62,11 @@ impl State {
         Ok(())
     }
 
-    // There is log for what waits, so many page records and a mark.
-    pub(crate) fn has_log(&self, due: usize) -> Result<(), StoreFault>
-        requires { due ≤ 64 }
-        ensures { Passes (first_fit (crowded self.now due ∷ [])) result }
+    // There is log for what waits, the records of these pages and a mark.
+    pub(crate) fn has_log(&self, due: &PageNumbers) -> Result<(), StoreFault>
+        ensures { Passes (first_fit (crowded self.now (array_vec_len due.now.items) ∷ [])) result }
     {
-        let needed = self.live() + (self.spool.len() + due + 1) as u64;
+        let needed = self.live() + (self.spool.len() + due.items.len() + 1) as u64;
         let room = self.log.places as u64;
         if needed > room {
             return Err(StoreFault::Full(needed - room));
@@ -76,9 +76,9 @@ impl State {
 
     // There are serials, log and, where they are not written, spool for a record of each of these pieces.
     pub(crate) fn may_commit(&self, pieces: &Pieces, flush: bool) -> Result<(), StoreFault>
-        ensures { Passes (first_fit (commit_rows self.now (array_vec_len pieces.now) flush)) result }
+        ensures { Passes (first_fit (commit_rows self.now (array_vec_len pieces.now.items) flush)) result }
     {
-        let waiting = self.spool.len() + pieces.len();
+        let waiting = self.spool.len() + pieces.items.len();
         if self.log.last + waiting as u64 + RESERVE as u64 > MOST {
             return Err(StoreFault::Serials(self.log.last));
         }

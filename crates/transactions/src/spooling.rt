@@ -1,7 +1,7 @@
 // Adding to the spool.
 ghost use Rattle.std.specs.Prelude.{◌≡◌, ◌+◌, ◌≤◌, ◌++◌, take, drop, if◌then◌else◌};
 ghost use Rattle.arrayvec.specs.ArrayVec.{array_vec_len};
-ghost use Rattle.image.specs.Cut.{FitsPage, AllPieces};
+ghost use Rattle.image.specs.Cut.{FitsPage};
 ghost use Rattle.transactions.specs.Parts.{part, parts, item_of, waiting};
 
 use crate::spool::{Spool, Spooled};
@@ -10,13 +10,12 @@ use image::{MEMORY, PAGE, Piece, Pieces};
 
 // The parts of a transaction join what waits, in their order.
 pub(crate) fn take_in(spool: &mut Spool, ordinal: u64, memory: &[u8; MEMORY], pieces: &Pieces)
-    requires room { array_vec_len spool.old + array_vec_len pieces.now ≤ 32 }
-    requires fit { AllPieces pieces.now.items }
-    ensures count { array_vec_len spool.new ≡ array_vec_len spool.old + array_vec_len pieces.now }
-    ensures waits { waiting spool.new ≡ waiting spool.old ++ parts ordinal memory.now pieces.now.items }
+    requires room { array_vec_len spool.old + array_vec_len pieces.now.items ≤ 32 }
+    ensures count { array_vec_len spool.new ≡ array_vec_len spool.old + array_vec_len pieces.now.items }
+    ensures waits { waiting spool.new ≡ waiting spool.old ++ parts ordinal memory.now pieces.now.items.items }
 {
-    for (i, piece) in pieces.iter().enumerate() {
-        spool.push(spooled(ordinal, memory, piece, i + 1 == pieces.len()));
+    for (i, piece) in pieces.items.iter().enumerate() {
+        spool.push(spooled(ordinal, memory, piece, i + 1 == pieces.items.len()));
     }
 }
 

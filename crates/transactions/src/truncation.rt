@@ -1,5 +1,5 @@
 // Truncation: dirty pages go home, and the log begins anew.
-ghost use Rattle.std.specs.Prelude.{◌+◌, ◌^◌, ◌<◌, ◌≤◌, length, slice_index, EachIndex};
+ghost use Rattle.std.specs.Prelude.{◌+◌, ◌^◌, ◌<◌};
 ghost use Rattle.arrayvec.specs.ArrayVec.{array_vec_len};
 ghost use Rattle.device.specs.Trace.{Tries};
 ghost use Rattle.durability.specs.Promises.{marking};
@@ -10,7 +10,7 @@ ghost use Rattle.transactions.specs.Truncation.{flushing, covering, going_home, 
 use crate::calls::flush_out;
 use crate::fault::StoreFault;
 use crate::homes::{write_homes, write_pages};
-use crate::pages::Dirty;
+use crate::pages::{Dirty, PageNumbers};
 use crate::state::State;
 use crate::surveying::find_dirty;
 use device::{Device, DeviceFault};
@@ -29,11 +29,10 @@ fn flush_waiting<D: Device>(device: &mut D, state: &State) -> Result<(), DeviceF
 }
 
 // Writes page records of these pages after what waited, and settles them.
-fn cover<D: Device>(device: &mut D, state: &State, due: &[usize]) -> Result<(), DeviceFault>
-    requires bounded { state.now.log.last + array_vec_len state.now.spool + length due.now < 2 ^ 63 }
-    requires inside { EachIndex due.now (λ i. slice_index due.now i < 64) }
+fn cover<D: Device>(device: &mut D, state: &State, due: &PageNumbers) -> Result<(), DeviceFault>
+    requires bounded { state.now.log.last + array_vec_len state.now.spool + array_vec_len due.now.items < 2 ^ 63 }
     requires lies { OnLog state.now (D.Device.disk device.old) }
-    ensures { Tries (D.Device.disk device.old) (covering state.now due.now) result (D.Device.disk device.new) }
+    ensures { Tries (D.Device.disk device.old) (covering state.now due.now.items.items) result (D.Device.disk device.new) }
 {
     write_pages(
         device,
@@ -46,23 +45,21 @@ fn cover<D: Device>(device: &mut D, state: &State, due: &[usize]) -> Result<(), 
 }
 
 // Writes these pages home, and settles them.
-fn go_home<D: Device>(device: &mut D, state: &State, pages: &[usize]) -> Result<(), DeviceFault>
-    requires inside { EachIndex pages.now (λ i. slice_index pages.now i < 64) }
+fn go_home<D: Device>(device: &mut D, state: &State, pages: &PageNumbers) -> Result<(), DeviceFault>
     requires lies { OnLog state.now (D.Device.disk device.old) }
-    ensures { Tries (D.Device.disk device.old) (going_home state.now pages.now) result (D.Device.disk device.new) }
+    ensures { Tries (D.Device.disk device.old) (going_home state.now pages.now.items.items) result (D.Device.disk device.new) }
 {
     write_homes(device, state.log.places, &state.image.memory, pages)?;
     device.barrier()
 }
 
-// Writes the mark at which the log begins anew after so many page records, and settles it.
-fn mark_anew<D: Device>(device: &mut D, state: &State, due: usize) -> Result<(), DeviceFault>
-    requires few { due ≤ 64 }
+// Writes the mark at which the log begins anew after the records of these pages, and settles it.
+fn mark_anew<D: Device>(device: &mut D, state: &State, due: &PageNumbers) -> Result<(), DeviceFault>
     requires bounded { state.now.log.last + array_vec_len state.now.spool + 65 < 2 ^ 63 }
     requires lies { OnLog state.now (D.Device.disk device.old) }
-    ensures { Tries (D.Device.disk device.old) (marking state.now.log.places (covered_to state.now due) state.now.log.ordinal) result (D.Device.disk device.new) }
+    ensures { Tries (D.Device.disk device.old) (marking state.now.log.places (covered_to state.now (array_vec_len due.now.items)) state.now.log.ordinal) result (D.Device.disk device.new) }
 {
-    let serial = state.written_to() + due as u64 + 1;
+    let serial = state.written_to() + due.items.len() as u64 + 1;
     let head = Head {
         serial,
         low: serial,
@@ -76,12 +73,12 @@ fn mark_anew<D: Device>(device: &mut D, state: &State, due: usize) -> Result<(),
 fn truncate_out<D: Device>(device: &mut D, state: &State, dirty: &Dirty) -> Result<(), DeviceFault>
     requires bounded { state.now.log.last + array_vec_len state.now.spool + 65 < 2 ^ 63 }
     requires lies { OnLog state.now (D.Device.disk device.old) }
-    ensures { Tries (D.Device.disk device.old) (truncating state.now dirty.now.due.items dirty.now.pages.items) result (D.Device.disk device.new) }
+    ensures { Tries (D.Device.disk device.old) (truncating state.now dirty.now.due.items.items dirty.now.pages.items.items) result (D.Device.disk device.new) }
 {
     flush_waiting(device, state)?;
     cover(device, state, &dirty.due)?;
     go_home(device, state, &dirty.pages)?;
-    mark_anew(device, state, dirty.due.len())
+    mark_anew(device, state, &dirty.due)
 }
 
 // Truncates, once it is known which pages are dirty.
@@ -95,16 +92,15 @@ fn truncate_pages<D: Device>(
     requires dirty { FoundDirty state.old (D.Device.disk device.old).shows dirty.now }
     ensures { PagesAnswer state.old (D.Device.disk device.old) result state.new (D.Device.disk device.new) }
 {
-    let records = dirty.due.len();
-    state.has_log(records)?;
+    state.has_log(&dirty.due)?;
     // What waits names a page, so that nothing waits where no page is named.
-    if dirty.pages.is_empty() {
+    if dirty.pages.items.is_empty() {
         return Ok(0);
     }
     state.on = false;
     truncate_out(device, state, dirty)?;
-    state.truncated(records);
-    Ok(dirty.pages.len())
+    state.truncated(&dirty.due);
+    Ok(dirty.pages.items.len())
 }
 
 // Writes dirty pages home and begins the log anew, where there are serials and log for that.

@@ -3,7 +3,7 @@ ghost use Rattle.std.specs.Prelude.{◌+◌, ◌%◌, ◌^◌, ◌<◌, ◌≤�
 ghost use Rattle.arrayvec.specs.ArrayVec.{array_vec_len};
 ghost use Rattle.device.specs.Trace.{Tries, wrote};
 ghost use Rattle.durability.specs.Items.{appending, recorded};
-ghost use Rattle.image.specs.Cut.{FitsPage, AllPieces};
+ghost use Rattle.image.specs.Cut.{FitsPage};
 ghost use Rattle.record.specs.Entry.{laid_out};
 ghost use Rattle.transactions.specs.Parts.{part, parts, item_of, waiting};
 
@@ -82,15 +82,21 @@ pub(crate) fn write_pieces<D: Device>(
     memory: &[u8; MEMORY],
     pieces: &Pieces,
 ) -> Result<(), DeviceFault>
-    requires bounded { last + array_vec_len pieces.now < 2 ^ 63 }
+    requires bounded { last + array_vec_len pieces.now.items < 2 ^ 63 }
     requires numbered { log.now.ordinal < 2 ^ 63 }
-    requires fit { AllPieces pieces.now.items }
     requires room { log.now.places ≤ (D.Device.disk device.old).plate.sectors }
-    ensures { Tries (D.Device.disk device.old) (appending log.now.places log.now.low last (parts (log.now.ordinal + 1) memory.now pieces.now.items)) result (D.Device.disk device.new) }
+    ensures { Tries (D.Device.disk device.old) (appending log.now.places log.now.low last (parts (log.now.ordinal + 1) memory.now pieces.now.items.items)) result (D.Device.disk device.new) }
 {
-    for (i, piece) in pieces.iter().enumerate() {
+    for (i, piece) in pieces.items.iter().enumerate() {
         let serial = last + 1 + i as u64;
-        write_piece(device, log, serial, memory, piece, i + 1 == pieces.len())?;
+        write_piece(
+            device,
+            log,
+            serial,
+            memory,
+            piece,
+            i + 1 == pieces.items.len(),
+        )?;
     }
     Ok(())
 }

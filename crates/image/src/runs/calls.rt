@@ -74,12 +74,12 @@ impl Runs {
 
     // The runs cut at the bounds of pages.
     pub(crate) fn pieces(&self) -> Pieces
-        ensures { result.items ≡ cut_runs (listed self.now) }
+        ensures { result.items.items ≡ cut_runs (listed self.now) }
     {
-        let mut pieces = Pieces::new();
+        let mut items = ArrayVec::new();
         for run in self.items.iter() {
-            run.cut(&mut pieces);
+            run.cut(&mut items);
         }
-        pieces
+        Pieces { items }
     }
 }

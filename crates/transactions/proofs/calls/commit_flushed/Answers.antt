@@ -23,7 +23,7 @@ committed-requires g c =
     let s = c.args.state.now in
     let ps = c.args.pieces.now in
     record {
-      bounded = omega (arith, (roomy s (array_vec_len ps) true c.requires.passes).serials);
+      bounded = omega (arith, (roomy s (array_vec_len ps.items) true c.requires.passes).serials);
       some = some_pieces s ps c.requires.pieces c.requires.some;
       pieces = c.requires.pieces;
     }

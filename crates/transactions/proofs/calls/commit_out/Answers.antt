@@ -4,7 +4,7 @@ use Rattle.std.proofs.lemmas.Result.{err_from_is_err_and}
 use Rattle.device.specs.Trace.{Act, settled, Done, Tries}
 use Rattle.device.proofs.Plans.{tries_after}
 use Rattle.arrayvec.specs.ArrayVec.{array_vec_len}
-use Rattle.transactions.proofs.Plans.{on_device, still_on, spool_plan, pieces_after, piece_plan, commit_plan, cut_first, then_settled, roomy, pieces_fit}
+use Rattle.transactions.proofs.Plans.{on_device, still_on, spool_plan, pieces_after, piece_plan, commit_plan, cut_first, then_settled, roomy}
 use Rattle.transactions.proofs.calls.commit_out.Goals as goal
 
 pub returns-in_err-write_spool : goal.returns-in_err-write_spool
@@ -24,11 +24,10 @@ write_pieces-requires g c =
     let s = c.args.state.now in
     let d = g.D.Device.disk c.args.device.now in
     let m = g.D.Device.disk c.write_spool.new.device in
-    let room = roomy s (array_vec_len c.args.pieces.now) true c.requires.passes in
+    let room = roomy s (array_vec_len c.args.pieces.now.items) true c.requires.passes in
     record {
       bounded = omega (arith, room.serials);
       numbered = omega (arith, s.numbered, s.bounded);
-      fit = pieces_fit s c.args.pieces.now c.requires.pieces;
       room = on_device s m (still_on s d m (spool_plan s) c.in_ok-write_spool.ensures c.requires.lies);
     }
 

@@ -2,7 +2,7 @@
 use Rattle.std.proofs.Common.{Bool, sym, refl, subst, inl, arith}
 use Rattle.transactions.specs.Calls.{Enters}
 use Rattle.arrayvec.specs.ArrayVec.{array_vec_len}
-use Rattle.transactions.proofs.Plans.{roomy, some_pieces, pieces_fit, passes_own, refused_own}
+use Rattle.transactions.proofs.Plans.{roomy, some_pieces, passes_own, refused_own}
 use Rattle.transactions.proofs.calls.commit_pieces.Goals as goal
 
 pub returns-in-Err : goal.returns-in-Err
@@ -20,13 +20,12 @@ pub spooled_up-requires : goal.spooled_up-requires
 spooled_up-requires g c =
     let s = c.args.state.now in
     let ps = c.args.pieces.now in
-    let room = roomy s (array_vec_len ps) c.args.flush c.in_default.ensures in
+    let room = roomy s (array_vec_len ps.items) c.args.flush c.in_default.ensures in
     record {
       room = room.spool c.if-flush.false;
       bounded = omega (arith, room.serials);
       some = some_pieces s ps c.requires.pieces c.requires.some;
       pieces = c.requires.pieces;
-      fit = pieces_fit s ps c.requires.pieces;
       on = c.requires.on;
     }
 

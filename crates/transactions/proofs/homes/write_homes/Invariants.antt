@@ -6,5 +6,5 @@ use Rattle.transactions.proofs.homes.write_homes.Given as goal
 
 abbrev pub invariant-loop-page : goal.invariant-loop-page
 invariant-loop-page g l =
-    Working (g.D.Device.disk l.initial.device) (homing l.places l.memory l.pages)
-    (g.D.Device.disk l.device) (homing l.places l.memory (drop l.page-index l.pages))
+    Working (g.D.Device.disk l.initial.device) (homing l.places l.memory l.pages.items.items)
+    (g.D.Device.disk l.device) (homing l.places l.memory (drop l.page-index l.pages.items.items))

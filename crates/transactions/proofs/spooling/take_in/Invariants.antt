@@ -7,5 +7,5 @@ use Rattle.transactions.proofs.spooling.take_in.Given as goal
 abbrev pub invariant-loop-i : goal.invariant-loop-i
 invariant-loop-i l = record {
   count : array_vec_len l.spool ≡ array_vec_len l.initial.spool + l.i;
-  waits : waiting l.spool ≡ waiting l.initial.spool ++ take l.i (parts l.ordinal l.memory l.pieces.items);
+  waits : waiting l.spool ≡ waiting l.initial.spool ++ take l.i (parts l.ordinal l.memory l.pieces.items.items);
 }

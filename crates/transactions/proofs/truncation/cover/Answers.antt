@@ -10,22 +10,22 @@ pub returns-in_err-write_pages : goal.returns-in_err-write_pages
 returns-in_err-write_pages g c =
     let d = g.D.Device.disk c.args.device.now in
     let s = c.args.state.now in
-    let plan = pages_after s (s.log.last + array_vec_len s.spool) c.args.due.now in
+    let plan = pages_after s (s.log.last + array_vec_len s.spool) c.args.due.now.items.items in
     let p = err_from_is_err_and c.from_residual.result c.from_residual.ensures.1 in
     let e = g.D.Device.disk c.write_pages.new.device in
     let f = c.in_err-write_pages.field-0.0 in
     rw (p.1, p.2)
     (cut_first d e plan (settled ∷ []) f
-    (subst (λ (k : ℕ). Tries d (pages_after s k c.args.due.now) (Err f) e) c.written_to.ensures
+    (subst (λ (k : ℕ). Tries d (pages_after s k c.args.due.now.items.items) (Err f) e) c.written_to.ensures
     c.in_err-write_pages.ensures))
 
 pub returns : goal.returns
 returns g c =
     let d = g.D.Device.disk c.args.device.now in
     let s = c.args.state.now in
-    let plan = pages_after s (s.log.last + array_vec_len s.spool) c.args.due.now in
+    let plan = pages_after s (s.log.last + array_vec_len s.spool) c.args.due.now.items.items in
     let m = g.D.Device.disk c.write_pages.new.device in
     then_settled d m (g.D.Device.disk c.barrier.new.self) plan c.barrier.result
-    (subst (λ (k : ℕ). Done d (pages_after s k c.args.due.now) m) c.written_to.ensures
+    (subst (λ (k : ℕ). Done d (pages_after s k c.args.due.now.items.items) m) c.written_to.ensures
     c.in_ok-write_pages.ensures)
     c.barrier.ensures

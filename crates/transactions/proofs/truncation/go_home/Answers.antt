@@ -10,7 +10,7 @@ pub returns-in_err-write_homes : goal.returns-in_err-write_homes
 returns-in_err-write_homes g c =
     let d = g.D.Device.disk c.args.device.now in
     let s = c.args.state.now in
-    let plan = homing s.log.places s.image.memory c.args.pages.now in
+    let plan = homing s.log.places s.image.memory c.args.pages.now.items.items in
     let p = err_from_is_err_and c.from_residual.result c.from_residual.ensures.1 in
     rw (p.1, p.2) (cut_first d (g.D.Device.disk c.write_homes.new.device) plan (settled ∷ []) c.in_err-write_homes.field-0.0 c.in_err-write_homes.ensures)
 
@@ -18,5 +18,5 @@ pub returns : goal.returns
 returns g c =
     let d = g.D.Device.disk c.args.device.now in
     let s = c.args.state.now in
-    let plan = homing s.log.places s.image.memory c.args.pages.now in
+    let plan = homing s.log.places s.image.memory c.args.pages.now.items.items in
     then_settled d (g.D.Device.disk c.write_homes.new.device) (g.D.Device.disk c.barrier.new.self) plan c.barrier.result c.in_ok-write_homes.ensures c.barrier.ensures

@@ -14,7 +14,7 @@ returns-in_err-has_log g c =
     let s = c.args.state.now in
     let k = c.requires.dirty in
     let d = g.D.Device.disk c.args.device.now in
-    let records = c.len-records.ensures.value ∙ ap length k.due in
+    let records = ap length k.due in
     let p = err_from_is_err_and c.from_residual.result c.from_residual.ensures.1 in
     rw (p.1, p.2) (inl (subst (λ (n : ℕ). first_fit (crowded s n ∷ []) ≡ Some c.in_err-has_log.field-0.0) records c.in_err-has_log.ensures, refl, refl))
 
@@ -23,9 +23,9 @@ returns-then-is_empty g c =
     let s = c.args.state.now in
     let k = c.requires.dirty in
     let d = g.D.Device.disk c.args.device.now in
-    let records = c.len-records.ensures.value ∙ ap length k.due in
+    let records = ap length k.due in
     let dirty = ap length k.pages in
-    let none = eqb-true (length c.args.dirty.now.pages.items) 0 (sym c.is_empty.ensures ∙ c.if-is_empty.true) in
+    let none = eqb-true (length c.args.dirty.now.pages.items.items) 0 (sym c.is_empty.ensures ∙ c.if-is_empty.true) in
     let clean = nil_from_length (dirty_pages s d.shows) (sym dirty ∙ none) in (
       subst (λ (n : ℕ). first_fit (crowded s n ∷ []) ≡ None) records c.in_ok-has_log.ensures,
       inl record { clean = clean; empty = nothing_waits s d.shows clean; answer = refl; state = refl; device = refl },
@@ -38,7 +38,7 @@ returns-in_err-truncate_out g c =
     let d = g.D.Device.disk c.args.device.now in
     let e = g.D.Device.disk c.truncate_out.new.device in
     let f = c.in_err-truncate_out.field-0.0 in
-    let records = c.len-records.ensures.value ∙ ap length k.due in
+    let records = ap length k.due in
     let dirty = ap length k.pages in
     let p = err_from_is_err_and c.from_residual-in_err-truncate_out.result c.from_residual-in_err-truncate_out.ensures.1 in
     rw (p.1, p.2)
@@ -53,7 +53,7 @@ returns g c =
     let k = c.requires.dirty in
     let d = g.D.Device.disk c.args.device.now in
     let e = g.D.Device.disk c.truncate_out.new.device in
-    let records = c.len-records.ensures.value ∙ ap length k.due in
+    let records = ap length k.due in
     let dirty = ap length k.pages in
     let new = c.truncated.ensures in (
       subst (λ (n : ℕ). first_fit (crowded s n ∷ []) ≡ None) records c.in_ok-has_log.ensures,

@@ -1,7 +1,6 @@
 -- Each turn writes one piece more.
-use Rattle.std.proofs.Common.{◌+◌, length, sym, ap, subst, arith}
+use Rattle.std.proofs.Common.{◌+◌, length, ap, arith}
 use Rattle.std.proofs.lemmas.Result.{err_from_is_err_and}
-use Rattle.image.specs.Cut.{AllPieces}
 use Rattle.transactions.specs.Parts.{parts}
 use Rattle.transactions.proofs.Loops.{append_goes, append_cut, append_ends, still_room, part_at, next_own, length_parts, fits_at}
 use Rattle.transactions.proofs.writing.write_pieces.Goals as goal
@@ -9,7 +8,7 @@ use Rattle.transactions.proofs.writing.write_pieces.Goals as goal
 pub write_piece-requires : goal.write_piece-requires
 write_piece-requires g c =
     record {
-      fits = fits_at c.deref-piece-items.result.now c.loop-i.i _ c.loop-i-test.true (subst AllPieces (sym c.deref-piece-items.ensures.0) c.requires.fit);
+      fits = fits_at c.args.pieces.now c.deref-piece-items.result.now c.loop-i.i _ c.deref-piece-items.ensures.0 c.loop-i-test.true;
       numbered = c.requires.numbered;
       room = still_room c.args.log.now.places (g.D.Device.disk c.args.device.now) (g.D.Device.disk c.loop-i.device) _ _ c.loop-i.invariant c.requires.room;
     }
@@ -18,7 +17,7 @@ pub returns-in_err-write_piece : goal.returns-in_err-write_piece
 returns-in_err-write_piece g c =
     let log = c.args.log.now in
     let xs = c.deref-piece-items.result.now in
-    let ps = c.args.pieces.now.items in
+    let ps = c.args.pieces.now.items.items in
     let i = c.loop-i.i in
     let o = log.ordinal + 1 in
     let memory = c.args.memory.now in
@@ -32,7 +31,7 @@ pub loop-i-preserved : goal.loop-i-preserved
 loop-i-preserved g c =
     let log = c.args.log.now in
     let xs = c.deref-piece-items.result.now in
-    let ps = c.args.pieces.now.items in
+    let ps = c.args.pieces.now.items.items in
     let i = c.loop-i.i in
     let o = log.ordinal + 1 in
     let memory = c.args.memory.now in
@@ -43,7 +42,7 @@ loop-i-preserved g c =
 pub returns : goal.returns
 returns g c =
     let log = c.args.log.now in
-    let ps = c.args.pieces.now.items in
+    let ps = c.args.pieces.now.items.items in
     let o = log.ordinal + 1 in
     let memory = c.args.memory.now in
     let e = ap length c.deref-piece-items.ensures.0 in

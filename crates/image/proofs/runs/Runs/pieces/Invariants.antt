@@ -5,4 +5,4 @@ use Rattle.image.specs.Calls.{listed}
 use Rattle.image.proofs.runs.Runs.pieces.Given as goal
 
 abbrev pub invariant-loop-run : goal.invariant-loop-run
-invariant-loop-run l = l.pieces.items ++ cut_runs (drop l.run-index l.run-items) ≡ cut_runs (listed l.self)
+invariant-loop-run l = l.items.items ++ cut_runs (drop l.run-index l.run-items) ≡ cut_runs (listed l.self)

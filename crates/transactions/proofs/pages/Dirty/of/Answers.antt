@@ -5,7 +5,7 @@ use Rattle.arrayvec.specs.ArrayVec.{ArrayVec}
 use Rattle.transactions.specs.Pages.{named_in, covered_in, needed}
 use Rattle.transactions.proofs.Flagging.{onward, chosen_end, chosen_inside, puts_page, passes_page}
 use Rattle.transactions.proofs.pages.Dirty.of.Goals as goal
-use Rattle.transactions.proofs.pages.Dirty.of.Goals.{then-said+then-not-said, then-said+else-not-said, else-said}
+use Rattle.transactions.proofs.pages.Dirty.of.Goals.{After-loop-page, then-said+then-not-said, then-said+else-not-said, else-said}
 
 pub loop-page-preserved : goal.loop-page-preserved
 loop-page-preserved c =
@@ -46,13 +46,13 @@ loop-page-preserved c =
           }
     ]
 
-pages : (c : goal.After-loop-page) → c.loop-page.dirty.items ≡ onward (named_in c.args.pages.now) 0 64
+pages : (c : After-loop-page) → c.loop-page.dirty.items ≡ onward (named_in c.args.pages.now) 0 64
 pages c =
     let l = c.loop-page in
     sym (append-nil l.dirty.items)
     ∙ ap (λ (ps : List ℕ). l.dirty.items ++ ps) (sym (chosen_end (named_in c.args.pages.now) l.page 64 c.loop-page-test.false)) ∙ l.invariant.pages
 
-due : (c : goal.After-loop-page) → c.loop-page.due.items ≡ onward (needed c.args.pages.now) 0 64
+due : (c : After-loop-page) → c.loop-page.due.items ≡ onward (needed c.args.pages.now) 0 64
 due c =
     let l = c.loop-page in
     sym (append-nil l.due.items)
@@ -60,11 +60,17 @@ due c =
 
 pub invariant_of-result : goal.invariant_of-result
 invariant_of-result c =
-    let ps = c.args.pages.now in
     record {
-      pages_inside = subst (λ (xs : List ℕ). (i : ℕ) → i < length xs → get_or xs i 0 < 64) (sym (pages c)) (λ i h. chosen_inside (named_in ps) 0 64 64 i (omega arith) h);
-      due_inside = subst (λ (xs : List ℕ). (i : ℕ) → i < length xs → get_or xs i 0 < 64) (sym (due c)) (λ i h. chosen_inside (needed ps) 0 64 64 i (omega arith) h);
+      few = omega (arith, c.loop-page.invariant.few_pages);
+      inside = subst (λ (xs : List ℕ). (i : ℕ) → i < length xs → get_or xs i 0 < 64) (sym (pages c)) (λ i h. chosen_inside (named_in c.args.pages.now) 0 64 64 i (omega arith) h);
+    }
+
+pub invariant_of-result-2 : goal.invariant_of-result-2
+invariant_of-result-2 c =
+    record {
+      few = omega (arith, c.before.loop-page.invariant.few_due);
+      inside = subst (λ (xs : List ℕ). (i : ℕ) → i < length xs → get_or xs i 0 < 64) (sym (due c.before)) (λ i h. chosen_inside (needed c.args.pages.now) 0 64 64 i (omega arith) h);
     }
 
 pub returns : goal.returns
-returns c = record { pages = pages c.before; due = due c.before }
+returns c = record { pages = pages c.before.before; due = due c.before.before }
