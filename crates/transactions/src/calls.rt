@@ -1,4 +1,5 @@
-// The calls that write, over the device and the state.
+// The calls that write, over the device and the state. Each asks that the log lies on the device: a store is off
+// while it writes, and its type says so only of one that is on.
 ghost use Rattle.std.specs.Prelude.{◌≡◌, ◌+◌, true, ◌≢◌, [], ◌++◌, None};
 ghost use Rattle.arrayvec.specs.ArrayVec.{array_vec_len};
 ghost use Rattle.device.specs.Trace.{Tries};

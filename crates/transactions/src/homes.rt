@@ -1,4 +1,5 @@
-// Writing pages: their records into the log, and the pages themselves home.
+// Writing pages: their records into the log, and the pages themselves home. That a page is below 64 is asked of one,
+// and a list of them holds it: a type for one would be made of an index and taken apart at once.
 ghost use Rattle.std.specs.Prelude.{◌≡◌, ◌+◌, ◌%◌, ◌^◌, ◌<◌, ◌≤◌, [], ◌∷◌, map};
 ghost use Rattle.arrayvec.specs.ArrayVec.{array_vec_len};
 ghost use Rattle.device.specs.Trace.{Tries, wrote};

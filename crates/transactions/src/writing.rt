@@ -1,4 +1,5 @@
-// Writing records at the end of the log.
+// Writing records at the end of the log. A part that waits and a piece of the memory have their bytes in different
+// places, and share what makes a head and writes a record; one function for both would be no plainer.
 ghost use Rattle.std.specs.Prelude.{◌+◌, ◌%◌, ◌^◌, ◌<◌, ◌≤◌, [], ◌∷◌, if◌then◌else◌};
 ghost use Rattle.arrayvec.specs.ArrayVec.{array_vec_len};
 ghost use Rattle.device.specs.Trace.{Tries, wrote};
