@@ -14,7 +14,7 @@ use plan::{Fate, Supply};
 // Sectors in the caller's bytes, with a flag for each that is not 0 where the sector is spoiled.
 #[derive(Drop)]
 pub struct Bench<'a> {
-    // The caller lends the sectors and the flags as two lists, so they are two here.
+    // The caller lends the sectors and the flags as two lists, and a flag as a byte, so they are that here.
     cells: &'a mut [[u8; SECTOR]],
     flags: &'a mut [u8],
     supply: Supply<'a>,

@@ -18,7 +18,7 @@ pub struct Slot {
 }
 
 impl Slot {
-    // The sector with a copy of its bytes.
+    // The sector with a copy of its bytes, made of zeros and filled as every sector's buffer is.
     pub(crate) fn new(sector: usize, bytes: &[u8]) -> Self
         requires { length bytes.now ≡ 128 }
         ensures { result ≡ slot sector bytes.now }
@@ -39,7 +39,8 @@ pub(crate) fn find(held: &[Slot], sector: usize) -> Option<&Slot>
     held.iter().rev().find(|slot| slot.sector == sector)
 }
 
-// Gives the sector its new bytes in its old turn.
+// Gives the sector its new bytes in its old turn. A loop, since after an adapter of a writing iterator nothing is
+// known of what it wrote.
 pub(crate) fn rewrite(held: &mut ArrayVec<Slot, SLOTS>, new: Slot)
     ensures { held.new.items ≡ rewritten new.sector new.bytes held.old.items }
 {

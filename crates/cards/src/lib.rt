@@ -13,7 +13,7 @@ use std::alloc::{AllocError, Global};
 #[derive(Drop)]
 pub struct Card {
     pub sectors: Vec<[u8; SECTOR]>,
-    // One a sector; not zero where it is spoiled. A bench device borrows them apart from the sectors.
+    // One a sector; not zero where it is spoiled. A bench device borrows them apart from the sectors, as bytes.
     pub flags: Vec<u8>,
     // The power plan of the next device over it.
     pub plan: Vec<u8>,

@@ -51,7 +51,7 @@ fn obey(card: &mut Card, heap: Global, command: CardCommand) -> Result<Answer<'_
     Ok(Answer::Done)
 }
 
-// What a sector of a card shows.
+// What a sector of a card shows. Not an Option, since it is printed.
 #[derive(Clone, Copy)]
 pub enum Shown<'a> {
     Spoiled,

@@ -72,7 +72,6 @@ fn main(rt: HostRuntime) -> anyhow::Result<()> {
     let mut desk = Desk::new(&rt)?;
     let mut cards = Cards::new(rt.alloc(), CARD_SECTORS)?;
     // Counted, as in `serve::hold`.
-    // A loop must be seen to end, and the input is not, hence the count.
     for _ in 0..u64::MAX {
         let Some(command) = desk.next_command()? else {
             return Ok(());

@@ -80,7 +80,6 @@ fn obey<D: Device + Drop>(
 fn serve<D: Device + Drop>(desk: &mut Desk, mut device: D) -> anyhow::Result<()> {
     desk.say(&Answer::Count(device.sectors()))?;
     // Counted, as in `hold`.
-    // As in hold, the count lets the loop be seen to end.
     for _ in 0..u64::MAX {
         let Some(command) = desk.next_command()? else {
             return Ok(());

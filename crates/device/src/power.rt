@@ -4,7 +4,8 @@ ghost use Rattle.std.specs.Prelude.{◌≡◌, true};
 
 use crate::DeviceFault;
 
-// Whether a layer is on, and the origin that it handed up where power failed last.
+// Whether a layer is on, and the origin that it handed up where power failed last. No call answers by the second:
+// it is what the device's model says was told.
 #[derive(Clone, Copy, PartialEq, Eq, Debug)]
 pub struct Power {
     pub on: bool,

@@ -30,7 +30,8 @@ impl Run {
         })
     }
 
-    // Copies the bytes of the run.
+    // Copies the bytes of the run. That it ends in the memory is asked, here and below, since the definitions make
+    // runs of any two numbers.
     pub(crate) fn copy(&self, source: &[u8; MEMORY], target: &mut [u8; MEMORY])
         requires some { self.now.from ≤ self.now.to }
         requires inside { self.now.to ≤ 6144 }

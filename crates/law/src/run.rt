@@ -62,7 +62,7 @@ impl<D: Device> Run<D> {
     {
         let mut run = self;
         let count = calls.len().min(answers.len());
-        // A chain that writes the answers too tells nothing of them, so they are written by their place.
+        // After a `zip` over what is written nothing is known of it, so the answers are written by their place.
         for (i, call) in calls[..count].iter().enumerate() {
             let (next, answer) = run.step(*call);
             run = next;

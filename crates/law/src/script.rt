@@ -41,7 +41,8 @@ pub enum Told {
     Done,
     // The number of the token.
     Begun(u64),
-    // The first of these are the bytes that were read.
+    // The first of these are the bytes that were read, as many as the call asked for. A whole array, since answers
+    // are copied.
     Bytes([u8; 96]),
     // The ordinal, and how many records.
     Committed(u64, usize),

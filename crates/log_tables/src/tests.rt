@@ -62,7 +62,7 @@ fn good(place: usize, edit: Edit) -> bool {
     record::read(&sector, place, 160).is_some()
 }
 
-// The first serial that no record may have.
+// The first serial that no record may have, by hand as all that is expected here.
 const TOP: u64 = 0x8000_0000_0000_0000;
 
 // Each test of a sector, by one that just passes it and one that just fails it.
@@ -159,7 +159,7 @@ fn sizes(rt: HostRuntime) -> Result<(), Fail> {
     Ok(())
 }
 
-// A record of a log whose oldest serial needed is 1.
+// A record of a log whose oldest serial needed is 1, laid by hand: the tables don't rest on what they test.
 #[derive(Clone, Copy)]
 enum Kind {
     Mark,
@@ -258,6 +258,15 @@ fn openings(rt: HostRuntime) -> Result<(), Fail> {
         opens_card(rt.alloc(), 165, &[(1, 0, Kind::Mark)])?,
         (Err(StoreFault::Uncovered(5)), Err(StoreFault::Uncovered(5)))
     );
+    // The numbers by which the table of refusals names these three.
+    let numbered = [
+        (StoreFault::NoLog, 6),
+        (StoreFault::NoMark(1), 7),
+        (StoreFault::Uncovered(5), 8),
+    ];
+    for (fault, number) in numbered {
+        assert_eq!(rt; fault.number(), number);
+    }
     Ok(())
 }
 

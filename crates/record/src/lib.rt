@@ -149,7 +149,7 @@ impl<'a> Record<'a> {
 }
 
 // The record in a sector at this place of a log of so many sectors, or none where the sector is not
-// good there.
+// good there. Any two numbers will do: a type that holds a place to its log would ask more of callers.
 #[tactic(auto, unfolding(crate::specs::Entry::reads_as))]
 pub fn read<'a>(sector: &'a [u8], place: usize, places: usize) -> Option<Record<'a>>
     ensures good { Answered places place sector.now result }

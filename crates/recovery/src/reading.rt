@@ -16,7 +16,8 @@ use device::{Device, DeviceFault, SECTOR};
 use journal::{Note, Survey, look_at, of_serial};
 use record::{PAGE, Record};
 
-// The bytes of a sector, or none where it is spoiled.
+// The bytes of a sector, or none where it is spoiled. That it is there is a premise, here and below, since what notes
+// a record is public and asks nothing.
 fn fetch<D: Device>(device: &mut D, sector: usize) -> Result<Option<[u8; SECTOR]>, DeviceFault>
     ensures { sector < (D.Device.disk device.old).plate.sectors → Looks (D.Device.disk device.old) (Fetched (D.Device.disk device.old) sector) result (D.Device.disk device.new) }
 {
@@ -44,8 +45,8 @@ fn put_page(memory: &mut [u8; MEMORY], page: usize, sector: &[u8; SECTOR])
     put_bytes(memory, page * PAGE, &sector[..PAGE]);
 }
 
-// Starts a page from its home; false where that is spoiled, and then from zeros. A yes or no that the caller
-// asks beside its own: an Option of nothing would be no plainer.
+// Starts a page from its home; false where that is spoiled, and then from zeros. It is a step of its own, with what
+// one page becomes, and answers the yes or no that its caller asks beside another: written there it is no plainer.
 fn load_home<D: Device>(
     device: &mut D,
     places: Places,

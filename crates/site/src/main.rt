@@ -19,9 +19,8 @@ pub const SECTORS: usize = 224;
 // A line of text in a sector, with zeros after it.
 fn sector_of(text: &[u8]) -> [u8; SECTOR] {
     let mut sector = [0u8; SECTOR];
-    for (place, b) in sector.iter_mut().zip(text) {
-        *place = *b;
-    }
+    let size = text.len().min(SECTOR);
+    sector[..size].copy_from_slice(&text[..size]);
     sector
 }
 
@@ -116,7 +115,8 @@ fn tell_pile<L: Device + Drop, R: Device + Drop>(
     tell(rt, Cache::new(Mirror::new(left, right)))
 }
 
-// A device over each card. Where both are refused, the left one's refusal answers.
+// A device over each card. Where both are refused, the left one's refusal answers. So does the console, whose cards
+// are one struct: a function of both would be no plainer.
 fn devices<'a>(
     left: &'a mut Card,
     right: &'a mut Card,

@@ -5,7 +5,8 @@ ghost use Rattle.arrayvec.specs.ArrayVec.{array_vec_len};
 use arrayvec::ArrayVec;
 use record::PAGES;
 
-// What records say of a page: one names it, one covers it.
+// What records say of a page: one names it, one covers it. Each is said and asked by itself, so that one enum of the
+// three that occur would be no plainer.
 #[derive(Clone, Copy, PartialEq, Eq, Debug, Default)]
 pub(crate) struct Page {
     pub named: bool,

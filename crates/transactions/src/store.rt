@@ -12,8 +12,8 @@ use crate::token::Token;
 use crate::truncation::truncate_store;
 use device::Device;
 
-// A store owns its device until it is closed. Its log, with the homes after it, lies on the device while the
-// store is on.
+// A store owns its device until it is closed; a call that doesn't reach it says that it leaves it as it is. Its log,
+// with the homes after it, lies on the device while the store is on.
 #[derive(Drop)]
 pub struct Store<D: Device> {
     device: D,

@@ -1,4 +1,4 @@
-// Finding the pages that a truncation is to write home.
+// Finding the pages that a truncation is to write home. That the log lies on the device is asked, as in the calls.
 ghost use Rattle.std.specs.Prelude.{◌^◌, ◌<◌, ◌≤◌};
 ghost use Rattle.journal.specs.Log.{log};
 ghost use Rattle.durability.specs.Items.{recorded};

@@ -1,5 +1,6 @@
 // Writing records at the end of the log. A part that waits and a piece of the memory have their bytes in different
-// places, and share what makes a head and writes a record; one function for both would be no plainer.
+// places, and share what makes a head and writes a record; one function for both would be no plainer. That the log
+// lies on the device is asked, as in the calls.
 ghost use Rattle.std.specs.Prelude.{◌+◌, ◌%◌, ◌^◌, ◌<◌, ◌≤◌, [], ◌∷◌, if◌then◌else◌};
 ghost use Rattle.arrayvec.specs.ArrayVec.{array_vec_len};
 ghost use Rattle.device.specs.Trace.{Tries, wrote};
