@@ -1,4 +1,4 @@
-// Clearing the strays that an opening finds.
+// Clearing the strays that an opening finds. That the device has a sector for each note is asked where both are lent.
 ghost use Rattle.std.specs.Prelude.{◌≡◌, ◌≤◌, MatchOption, false, length, nat_lt};
 ghost use Rattle.device.specs.Disk.{Disk};
 ghost use Rattle.journal.specs.Notes.{Noted};

@@ -1,5 +1,6 @@
 // The calls that write, over the device and the state. Each asks that the log lies on the device: a store is off
-// while it writes, and its type says so only of one that is on.
+// while it writes, and its type says so only of one that is on. That pieces are those of the open transaction is asked
+// too: they are cut before the checks, and neither holds the other.
 ghost use Rattle.std.specs.Prelude.{◌≡◌, ◌+◌, true, ◌≢◌, [], ◌++◌, None};
 ghost use Rattle.arrayvec.specs.ArrayVec.{array_vec_len};
 ghost use Rattle.device.specs.Trace.{Tries};

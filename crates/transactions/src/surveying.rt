@@ -19,6 +19,7 @@ use recovery::note_at;
 fn tell(pages: &mut [Page; PAGES], page: usize, said: Page)
     ensures { Told page said pages.old pages.new }
 {
+    // By index, since a proof is not told what is written through `get_mut` of an array.
     if page < PAGES {
         pages[page] = pages[page].and(said);
     }

@@ -1,4 +1,5 @@
-// Truncation: dirty pages go home, and the log begins anew. That it lies on the device is asked, as in the calls.
+// Truncation: dirty pages go home, and the log begins anew. That it lies on the device is asked, as in the calls,
+// and that there are serials left, which a test of the state has answered.
 ghost use Rattle.std.specs.Prelude.{◌+◌, ◌^◌, ◌<◌};
 ghost use Rattle.arrayvec.specs.ArrayVec.{array_vec_len};
 ghost use Rattle.device.specs.Trace.{Tries};
