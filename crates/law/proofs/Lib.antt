@@ -6,6 +6,8 @@ pub mod Committing
 pub mod Cuts
 pub mod Runs
 pub mod Pages
+pub mod Says
+pub mod Covering
 pub mod Standing
 pub mod Steps
 pub mod Reading

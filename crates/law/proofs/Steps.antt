@@ -280,7 +280,7 @@ module _ (n : ℕ) (s s' : State) (d e : Disk) (h : History) (w : Sound n s d h)
       let is : with_barrier made h.entered h.kept ≡ h = none_settled made h.entered h.kept barrier in (
         λ j same. absurd (let z : ◌≡◌ {A = ℕ} 0 1 = cc in omega arith),
         subst (λ (g : History). Sound n s' e g) (sym is)
-            (off_stands n s' e h c.off (flush_cut runs_lay runs_fit runs_none n d s h (rests n s d h w on) f s' e c)),
+            (off_stands n s' e h c.off (flush_cut runs_lay runs_fit runs_none n d s h (rests n s d h w on) c.origin e c.cut)),
       )
 
   -- an opening
