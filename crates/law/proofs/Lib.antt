@@ -8,7 +8,9 @@ pub mod Runs
 pub mod Pages
 pub mod Says
 pub mod Covering
+pub mod Truncating
 pub mod Standing
+pub mod Truncated
 pub mod Steps
 pub mod Reading
 pub mod Tracing
