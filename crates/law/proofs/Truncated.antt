@@ -11,6 +11,7 @@ use Rattle.device.proofs.Plans.{done_plate}
 use Rattle.record.specs.Entry.{laid_out}
 use Rattle.recovery.specs.Format.{mark}
 use Rattle.recovery.specs.Opening.{Divides}
+use Rattle.durability.specs.Items.{appending}
 use Rattle.durability.specs.Promises.{marking}
 use Rattle.durability.specs.Standing.{Firm, OpensTo, Choice}
 use Rattle.durability.proofs.Writes.{done_split, cut_split}
@@ -60,13 +61,13 @@ module _ (s : State) (d : Disk) (h : History) (r : Resting s.log.places d s h) (
   abbrev later_acts : List Act
   later_acts = covering s due ++ (going_home s dirty ++ last_acts)
 
+  abbrev Opens : (ℕ → Shown) → Type 0
+  Opens shows = (at : ℕ) × (c : ℕ) × OpensTo n shows at c s.log.ordinal memory
+
   short_later : (m : Disk) → Flushed s d h r calm free m → (o : ℕ) (e : Disk) → CutShort m later_acts o e → Safe n e (all_kept h.entered)
   short_later m w o e cut =
       recovers s d h r calm free e (short_plate m e later_acts o cut ∙ w.stands.plate) (opens (cut_split m e (covering s due) (going_home s dirty ++ last_acts) o cut))
     where
-      abbrev Opens : (ℕ → Shown) → Type 0
-      Opens shows = (at : ℕ) × (c : ℕ) × OpensTo n shows at c s.log.ordinal memory
-
       in_mark : (m2 m3 : Disk) → Done m (covering s due) m2 → Done m2 (going_home s dirty) m3 → CutShort m3 last_acts o e → (shows : ℕ → Shown) → Choice e shows → Opens shows
       in_mark m2 m3 first second k shows choice =
           let c = covered s d h r calm free m w m2 first in
@@ -141,7 +142,7 @@ module _ (s : State) (d : Disk) (h : History) (r : Resting s.log.places d s h) (
       (cond_both (settles (flushing s ++ more)) (length h.entered) h.kept (λ k. k ≡ length h.entered) (λ _. refl) (λ _. all)))
       (λ (e : none? ≡ false).
       let is : settles (flushing s ++ more) ≡ true =
-      ap (λ (xs : List Act). settles (xs ++ more)) (cond-false none? [] acts e) ∙ settles_left acts more (settles_all _) in
+      ap (λ (xs : List Act). settles (xs ++ more)) (cond-false none? [] acts e) ∙ settles_left acts more (settles_all (appending s.log.places s.log.low s.log.last (spooled s))) in
       ap (λ (b : Bool). record { entered = h.entered; kept = cond b (length h.entered) h.kept }) is)
       (cases_Bool none?)
 
@@ -181,3 +182,114 @@ module _ (s : State) (d : Disk) (h : History) (r : Resting s.log.places d s h) (
       let w = ended e done in
       recovers s d h r calm free e w.plate
       (λ shows choice. (end + 1, end + 1, subst (λ (f : ℕ → Shown). OpensTo n f (end + 1) (end + 1) s.log.ordinal memory) (sym (fun_ext (λ i. w.quiet i (shows i) (choice i)))) (firm_opens n e.shows (end + 1) (end + 1) s.log.ordinal memory w.firm)))
+
+-- where no row fits
+none_of : (o : Option StoreFault) → fits_none o ≡ true → o ≡ None
+none_of None e = refl
+none_of (Some f) e = absurd (both_ways false refl e)
+
+none_moved : (d e : Disk) (made : List Act) → Traced [] d made e → e ≡ d
+none_moved d e made (inl (_, same)) = same
+none_moved d e made (inr (o, c)) = absurd (omega (arith, length-append made (c.act ∷ c.rest), ap length c.all))
+
+module _ (n : ℕ) (s s' : State) (d e : Disk) (h : History) (w : Sound n s d h) (made : List Act) where
+  abbrev After : History
+  After = with_barrier made h.entered h.kept
+
+  -- The law of a truncation, and what it keeps.
+  abbrev pub TruncateKeeps : Answer → Type 0
+  TruncateKeeps a = ((k : ℕ) → a ≡ Ok (told.Truncated k) → AllKept After) × Sound n s' e After
+
+  abbrev pub Made : Type 0
+  Made = Traced (truncate_plan s d.shows) d made e ⊎ CutReading d made e
+
+  -- one that writes nothing
+  traced_if : (b : Bool) → does_truncate s d.shows ≡ b → Traced (truncate_plan s d.shows) d made e → Traced (cond b (truncation s d.shows) []) d made e
+  traced_if b is traced = subst (λ (c : Bool). Traced (cond c (truncation s d.shows) []) d made e) is traced
+
+  nothing_made : does_truncate s d.shows ≡ false → Made → made ≡ []
+  nothing_made idle (inl traced) = none_made d e made (traced_if false idle traced)
+  nothing_made idle (inr (none, _)) = none
+
+  after_none : made ≡ [] → After ≡ h
+  after_none none = ap (λ (xs : List Act). with_barrier xs h.entered h.kept) none
+
+  -- how the store rests where it is on, by its own number of places
+  resting : s.on ≡ true → Resting s.log.places d s h
+  resting on = let r = rests n s d h w on in subst (λ (k : ℕ). Resting k d s h) (sym r.places) r
+
+  -- one that was done made all of its plan
+  module _ (free : Clear s (length (due_pages s d.shows))) where
+    abbrev rest : Resting s.log.places d s h
+    rest = resting free.on
+
+    abbrev calm : declared s.image ≡ []
+    calm = w.free free.on free.free
+
+    places : s.log.places ≡ n
+    places = (rests n s d h w free.on).places
+
+    all_made : Done d (truncation s d.shows) e → made ≡ truncation s d.shows → After ≡ all_kept h.entered
+    all_made done same = ap (λ (xs : List Act). with_barrier xs h.entered h.kept) same ∙ barrier_after s d h rest calm free (later_acts s d h rest calm free)
+
+    done_made : Done d (truncation s d.shows) e → Traced (truncation s d.shows) d made e ⊎ CutReading d made e → After ≡ all_kept h.entered
+    done_made done (inl (inl (same, _))) = all_made done same
+    done_made done (inl (inr (o, c))) = absurd (both_ways e.on (cut_off c.act c.reached e o c.cut) (ended s d h rest calm free e done).on)
+    done_made done (inr (_, (o, f))) = absurd (both_ways e.on (failed_off d e o f) (ended s d h rest calm free e done).on)
+
+    traced_safe : Traced (truncation s d.shows) d made e → Safe n e After
+    traced_safe traced = subst (λ (k : ℕ). Safe k e After) places (go traced)
+      where
+        go : Traced (truncation s d.shows) d made e → Safe s.log.places e After
+        go (inl (same, done)) = subst (λ (g : History). Safe s.log.places e g) (sym (all_made done same)) (truncate_safe s d h rest calm free e done)
+        go (inr (o, c)) = truncate_cut s d h rest calm free made o e c
+
+  -- what it leaves where power failed
+  cut_stands : Made → Safe n e After
+  cut_stands (inr (none, (o, f))) = subst (λ (g : History). Safe n e g) (sym (after_none none)) (safe_failed n d e o h (safe n s d h w) f)
+  cut_stands (inl traced) =
+      let fit = first_fit (truncate_rows s (length (due_pages s d.shows))) in
+      ⊎_elim
+      (λ (does : does_truncate s d.shows ≡ true).
+      let passes = none_of fit (and_parts (fits_none fit) (leb 1 (length (dirty_pages s d.shows))) does).0 in
+      traced_safe (clear s (length (due_pages s d.shows)) passes) (traced_if true does traced))
+      (λ (idle : does_truncate s d.shows ≡ false).
+      let t = traced_if false idle traced in
+      subst (λ (g : History). Safe n e g) (sym (after_none (none_made d e made t)))
+      (subst (λ (v : Disk). Safe n v h) (sym (none_moved d e made t)) (safe n s d h w)))
+      (cases_Bool (does_truncate s d.shows))
+
+  pub truncate_answers : (r : Result ℕ StoreFault) → Made → Truncates s d r s' e → TruncateKeeps (told_truncate r)
+  truncate_answers (Ok k) traced (passes, inl c) =
+      let on = awake s (busy s ∷ serials s 0 ∷ crowded s (length (due_pages s d.shows)) ∷ []) passes in
+      let pages = length (dirty_pages s d.shows) in
+      let fit = first_fit (truncate_rows s (length (due_pages s d.shows))) in
+      let is = after_none (nothing_made (and_right (fits_none fit) (leb 1 pages) (lt-leb 1 pages (omega (arith, ap length c.clean)))) traced) in (
+        λ j same. subst AllKept (sym is) (empty_kept runs_lay runs_fit runs_none n d s h (rests n s d h w on) c.empty),
+        subst (λ (g : History). Sound n s' e g) (sym is) (same_stands n s s' d e h w c.state c.device),
+      )
+  truncate_answers (Ok k) traced (passes, inr c) =
+      let free = clear s (length (due_pages s d.shows)) passes in
+      let pages = length (dirty_pages s d.shows) in
+      let fit = first_fit (truncate_rows s (length (due_pages s d.shows))) in
+      let does : does_truncate s d.shows ≡ true = and_from (fits_none fit) (leb 1 pages) (ap fits_none passes) (le-leb 1 pages (some (dirty_pages s d.shows) c.some)) in
+      let is = done_made free c.done (⊎_elim (λ t. inl (traced_if true does t)) (λ k. inr k) traced) in
+      let left = truncate_done s d h (resting free.on) (w.free free.on free.free) free e s' c.done c.state in
+      let rest = subst (λ (k : ℕ). Resting k e s' (all_kept h.entered)) (places free) left in (
+        λ j same. subst AllKept (sym is) refl,
+        subst (λ (g : History). Sound n s' e g) (sym is) (on_stands n s' e (all_kept h.entered) rest (λ _. ap declared c.state.image ∙ w.free free.on free.free)),
+      )
+    where
+      some : (ps : List ℕ) → ps ≢ [] → 1 ≤ length ps
+      some [] h = absurd (h refl)
+      some (p ∷ ps) h = omega arith
+  truncate_answers (Err f) traced (inl (fits, state, device)) =
+      let fit = first_fit (truncate_rows s (length (due_pages s d.shows))) in
+      let is = after_none (nothing_made (and_left (fits_none fit) (leb 1 (length (dirty_pages s d.shows))) (ap fits_none fits)) traced) in (
+        λ j same. absurd (let z : ◌≡◌ {A = ℕ} 0 1 = cc in omega arith),
+        subst (λ (g : History). Sound n s' e g) (sym is) (same_stands n s s' d e h w state device),
+      )
+  truncate_answers (Err f) traced (inr c) = (
+    λ j same. absurd (let z : ◌≡◌ {A = ℕ} 0 1 = cc in omega arith),
+    off_stands n s' e After c.off (cut_stands traced),
+  )

@@ -44,7 +44,7 @@ use Rattle.law.proofs.Covering.{due_items, flushed_to, end_of, Holds, named_dirt
 
 -- a log says the same where its numbers and its memory are given otherwise
 
-firm_as : (n : ℕ) (shows : ℕ → Shown) (low last o last' o' : ℕ) (f g : ℕ → ℕ) → last ≡ last' → o ≡ o' → ((i : ℕ) → i < 6144 → f i ≡ g i) → Firm n shows low last o f → Firm n shows low last' o' g
+pub firm_as : (n : ℕ) (shows : ℕ → Shown) (low last o last' o' : ℕ) (f g : ℕ → ℕ) → last ≡ last' → o ≡ o' → ((i : ℕ) → i < 6144 → f i ≡ g i) → Firm n shows low last o f → Firm n shows low last' o' g
 firm_as n shows low last o last' o' f g end number same w =
     subst (λ (k : ℕ). Firm n shows low k o' g) end
     (subst (λ (k : ℕ). Firm n shows low last k g) number
