@@ -1,24 +1,21 @@
 -- The log once all dirty pages are covered: what it names, what it covers, and what its homes alone then make.
-use Rattle.std.proofs.Common.{◌≡◌, ℕ, ◌+◌, ◌-◌, ◌*◌, ◌/◌, ◌%◌, ◌<◌, ◌≤◌, Bool, true, false, cond, not, ◌⊎◌, ◌≢◌, List, [], ◌∷◌, ◌++◌, map, length, get_or, take, drop, replicate, sym, refl, ap, ◌∙◌, subst, inl, inr, ⊎_elim, arith}
-use Rattle.std.proofs.lemmas.Bool.{cases_Bool, cases_lt, both_ways}
+use Rattle.std.proofs.Common.{◌≡◌, ℕ, ◌+◌, ◌*◌, ◌/◌, ◌%◌, ◌<◌, ◌≤◌, Bool, true, false, cond, not, List, [], ◌∷◌, map, length, get_or, take, drop, replicate, sym, refl, ap, ◌∙◌, subst, inl, inr, ⊎_elim, arith}
+use Rattle.std.proofs.lemmas.Bool.{cases_Bool, cases_lt}
 use Rattle.std.proofs.lemmas.List.{length-map, get_or-take, get_or-drop, get_or_append_left}
 use Rattle.arrayvec.specs.ArrayVec.{array_vec_len}
-use Rattle.device.specs.Disk.{Disk, Shown, spoiled, holds, Among}
+use Rattle.device.specs.Disk.{Shown, Among}
 use Rattle.record.specs.Entry.{Entry}
 use Rattle.journal.specs.Log.{log}
-use Rattle.journal.specs.Memory.{byte_of, from_home}
-use Rattle.journal.specs.Opening.{Here, Covers}
-use Rattle.journal.proofs.Places.{kept}
+use Rattle.journal.specs.Opening.{Covers}
 use Rattle.durability.specs.Items.{Item, recorded}
-use Rattle.durability.specs.Promises.{Covered, home_of, AtHome}
-use Rattle.durability.specs.Standing.{Firm}
-use Rattle.durability.proofs.Growth.{At, Present, at_bounds, item_of}
+use Rattle.durability.specs.Promises.{Covered, home_of}
+use Rattle.durability.proofs.Growth.{Present, at_bounds, item_of}
 use Rattle.transactions.specs.declared.state.State.{State}
 use Rattle.transactions.specs.State.{live, spooled}
-use Rattle.transactions.specs.Truncation.{names, covers, in_log, in_items, is_dirty, is_due, said_of, dirty_pages, due_pages, page_item, covered_to}
+use Rattle.transactions.specs.Truncation.{names, covers, in_log, in_items, is_dirty, is_due, said_of, due_pages, page_item, covered_to}
 use Rattle.transactions.proofs.Flagging.{chosen_has}
 use Rattle.law.proofs.Pages.{chosen_passes, long_page}
-use Rattle.law.proofs.Says.{or_yes, or_left, or_right, log_yes, log_has, items_yes, items_has, page_at, at_page, names_page, names_of, covers_page, unnamed, replayed_clean}
+use Rattle.law.proofs.Says.{or_yes, or_left, or_right, log_yes, log_has, items_yes, items_has, page_at, at_page, names_page, covers_page}
 
 -- The records of the pages that are due.
 abbrev pub due_items : State → (ℕ → Shown) → List Item

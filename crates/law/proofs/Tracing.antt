@@ -12,7 +12,7 @@ use Rattle.transactions.specs.declared.token.Token.{Token}
 use Rattle.transactions.specs.Calls.{Commits, writing}
 use Rattle.transactions.specs.Rows.{first_fit, token_rows, commit_rows}
 use Rattle.transactions.specs.State.{spooled, own}
-use Rattle.transactions.specs.Truncation.{dirty_pages, due_pages, truncate_rows, truncation, Truncates}
+use Rattle.transactions.specs.Truncation.{dirty_pages, due_pages, truncate_rows, truncation}
 use Rattle.law.specs.declared.script.Deed.{Deed}
 use Rattle.law.specs.declared.script.Deed.TheVariants.{Begin, SetRange, Write, Commit, Abort}
 use Rattle.law.specs.declared.script.Call.{Call}

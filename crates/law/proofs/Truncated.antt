@@ -1,12 +1,12 @@
 -- A truncation as one event: the store at rest again with all kept, or, where power cuts it, nothing kept lost.
-use Rattle.std.proofs.Common.{◌≡◌, ℕ, ◌+◌, ◌-◌, ◌%◌, ◌≤◌, Bool, true, false, cond, eqb, leb, ◌&&◌, ◌⊎◌, ◌≢◌, List, [], ◌∷◌, ◌++◌, length, get_or, take, drop, Some, None, Ok, Err, Option, Result, sym, refl, ap, ◌∙◌, subst, inl, inr, ⊎_elim, arith}
+use Rattle.std.proofs.Common.{◌≡◌, ℕ, ◌+◌, ◌%◌, ◌≤◌, Bool, true, false, cond, eqb, leb, ◌⊎◌, ◌≢◌, List, [], ◌∷◌, ◌++◌, length, get_or, take, Some, None, Ok, Err, Option, Result, sym, refl, ap, ◌∙◌, subst, inl, inr, ⊎_elim, arith}
 use Rattle.arrayvec.specs.ArrayVec.{array_vec_len}
 use mathlib.Core.Path.{fun_ext}
-use Rattle.std.proofs.lemmas.Bool.{cases_Bool, cases_lt, both_ways, eqb-true, cond-true, cond-false, cond_both, and_from, and_left, and_right, and_parts, le-leb, lt-leb, leb-true}
-use Rattle.std.proofs.lemmas.List.{length-append, nil_from_length, take_all, drop_all}
+use Rattle.std.proofs.lemmas.Bool.{cases_Bool, both_ways, eqb-true, cond-true, cond-false, cond_both, and_from, and_left, and_right, and_parts, le-leb, lt-leb}
+use Rattle.std.proofs.lemmas.List.{length-append, take_all, drop_all}
 use Rattle.device.specs.Disk.{Disk, Plate, Shown}
-use Rattle.device.specs.Meaning.{Quiet, Failed}
-use Rattle.device.specs.Trace.{Act, wrote, settled, Done, CutShort}
+use Rattle.device.specs.Meaning.{Quiet}
+use Rattle.device.specs.Trace.{Act, wrote, Done, CutShort}
 use Rattle.device.proofs.Plans.{done_plate}
 use Rattle.record.specs.Entry.{laid_out}
 use Rattle.recovery.specs.Format.{mark}
@@ -23,9 +23,9 @@ use Rattle.image.proofs.Cutting.{runs_lay, runs_fit, runs_none}
 use Rattle.transactions.specs.declared.fault.StoreFault.{StoreFault}
 use Rattle.transactions.specs.declared.state.State.{State}
 use Rattle.transactions.specs.Calls.{writing}
-use Rattle.transactions.specs.Rows.{first_fit, off, busy, serials}
+use Rattle.transactions.specs.Rows.{first_fit, busy, serials}
 use Rattle.transactions.specs.State.{spooled}
-use Rattle.transactions.specs.Truncation.{dirty_pages, due_pages, crowded, truncate_rows, flushing, covering, going_home, covered_to, truncating, truncation, Truncated, Truncates}
+use Rattle.transactions.specs.Truncation.{dirty_pages, due_pages, crowded, truncate_rows, flushing, covering, going_home, truncation, Truncated, Truncates}
 use Rattle.law.specs.declared.script.Told.TheVariants as told
 use Rattle.law.specs.Transactions.{Transaction, made_of, batch}
 use Rattle.law.specs.History.{History, Resting, Safe, Sound}
@@ -36,7 +36,7 @@ use Rattle.law.proofs.Committing.{all_kept, none_spooled, empty_kept, flush_cut}
 use Rattle.law.proofs.Cuts.{failed_off, cut_off, short_at, CutLater, cut_parts, none_made, done_on, settles_all, settles_left, cut_settles}
 use Rattle.law.proofs.Standing.{rests, safe, same_stands, on_stands, off_stands, awake}
 use Rattle.law.proofs.Covering.{end_of}
-use Rattle.law.proofs.Truncating.{Clear, clear, Stands, Flushed, flushed, covered, cover_cut, at_home, home_short, recovers, memory_is, firm_as}
+use Rattle.law.proofs.Truncating.{Clear, clear, Flushed, flushed, covered, cover_cut, at_home, home_short, recovers, memory_is, firm_as}
 
 module _ (s : State) (d : Disk) (h : History) (r : Resting s.log.places d s h) (calm : declared s.image ≡ []) (free : Clear s (length (due_pages s d.shows))) where
   abbrev n : ℕ

@@ -1,29 +1,23 @@
 -- What a truncation leaves: all that is entered is kept, and the log begins anew; or, where power cuts it, nothing
 -- kept is lost. Each stage ends in a barrier, and the next begins from what then stands.
-use Rattle.std.proofs.Common.{◌≡◌, ℕ, ◌+◌, ◌-◌, ◌*◌, ◌/◌, ◌%◌, ◌^◌, ◌<◌, ◌≤◌, Bool, true, false, cond, eqb, ltb, ◌≢◌, ◌⊎◌, List, [], ◌∷◌, ◌++◌, map, length, get_or, take, drop, None, sym, refl, ap, ◌∙◌, subst, inl, inr, ⊎_elim, arith}
+use Rattle.std.proofs.Common.{◌≡◌, ℕ, ◌+◌, ◌-◌, ◌/◌, ◌%◌, ◌^◌, ◌<◌, ◌≤◌, true, false, eqb, ◌≢◌, List, [], ◌∷◌, length, get_or, take, None, sym, refl, ap, ◌∙◌, subst, ⊎_elim, arith}
 use Rattle.arrayvec.specs.ArrayVec.{array_vec_len}
 use Rattle.std.proofs.lemmas.Bool.{cases_Bool, cases_lt, both_ways, eqb-true, cond-true, cond-false, ltb-false, not-false}
-use Rattle.std.proofs.lemmas.List.{length-map, take_all, drop_all}
-use Rattle.device.specs.Disk.{Disk, Plate, Shown, spoiled, holds, Among}
+use Rattle.std.proofs.lemmas.List.{length-map, take_all}
+use Rattle.device.specs.Disk.{Disk, Plate, Shown, spoiled, holds}
 use Rattle.device.specs.Meaning.{Quiet}
-use Rattle.device.specs.Trace.{Act, wrote, settled, Done, CutShort}
+use Rattle.device.specs.Trace.{Act, Done, CutShort}
 use Rattle.device.proofs.Plans.{done_plate}
-use Rattle.record.specs.Entry.{Entry, laid_out}
 use Rattle.journal.specs.Log.{log}
-use Rattle.journal.specs.Memory.{byte_of, from_home, replayed}
-use Rattle.journal.specs.Opening.{Covers}
+use Rattle.journal.specs.Memory.{byte_of, from_home}
 use Rattle.journal.proofs.Places.{kept}
 use Rattle.durability.specs.Items.{Item, put_in, ordinal_after}
-use Rattle.durability.specs.Promises.{BeforeItems, BeforeHomes, BeforeMark, AtHome, marking}
+use Rattle.durability.specs.Promises.{BeforeItems, BeforeHomes, BeforeMark, AtHome}
 use Rattle.durability.specs.Standing.{Firm, OpensTo, Choice}
 use Rattle.durability.proofs.Growth.{At, Present, at_bounds}
-use Rattle.durability.proofs.Writes.{done_split, cut_split}
-use Rattle.durability.proofs.Opening.{firm_opens}
 use Rattle.durability.proofs.Appends.{appended, appended_says, append_cut}
 use Rattle.durability.proofs.Homings.{homed, home_cut}
-use Rattle.durability.proofs.Marks.{marked, mark_cut}
 use Rattle.recovery.specs.Opening.{Divides}
-use Rattle.recovery.specs.Format.{mark}
 use Rattle.image.specs.declared.run.Run.{Run}
 use Rattle.image.specs.Runs.{Declared}
 use Rattle.image.specs.Calls.{declared}
@@ -32,11 +26,10 @@ use Rattle.transactions.specs.declared.state.State.{State}
 use Rattle.transactions.specs.Calls.{writing}
 use Rattle.transactions.specs.Rows.{first_fit, off, busy, serials}
 use Rattle.transactions.specs.State.{live, spooled}
-use Rattle.transactions.specs.Truncation.{names, is_dirty, is_due, dirty_pages, due_pages, crowded, truncate_rows, flushing, covering, going_home, covered_to, truncation, Truncated}
+use Rattle.transactions.specs.Truncation.{names, is_dirty, is_due, dirty_pages, due_pages, crowded, truncate_rows, flushing, covering, going_home}
 use Rattle.transactions.proofs.Flagging.{chosen_has}
-use Rattle.law.specs.Transactions.{made_of, batch}
-use Rattle.law.specs.History.{History, Resting, Recoverable, Safe}
-use Rattle.law.proofs.Openings.{short_plate}
+use Rattle.law.specs.Transactions.{made_of}
+use Rattle.law.specs.History.{History, Resting, Safe}
 use Rattle.law.proofs.Committing.{all_kept, no_fit, long_spool, none_spooled, empty_kept, flush_firm, flush_says}
 use Rattle.law.proofs.Pages.{Inside, inside_all, chosen_passes, chosen_few, appendable_pages, kind_pages, ordinal_pages, put_pages, first_pages}
 use Rattle.law.proofs.Says.{unnamed, replayed_clean, names_of}
@@ -241,12 +234,14 @@ module _ (s : State) (d : Disk) (h : History) (r : Resting s.log.places d s h) (
     cover_cut o e cut shows choice =
         let k = append_cut n m e o low (flushed_to s) s.log.ordinal memory items before_items cut shows choice in
         let first = k.0 in
-        let p = first_pages s.log.ordinal s.image.memory s.image.whole due first k.1 inside k.2.all in
-        (low, flushed_to s + length first,
-        opens_as n shows low (flushed_to s + length first) (ordinal_after s.log.ordinal first) s.log.ordinal (λ i. put_in first i (memory i)) memory
-        (ap (λ xs. ordinal_after s.log.ordinal xs) p.2 ∙ ordinal_pages s.log.ordinal s.image.memory s.image.whole p.0)
-        (λ i small. ap (λ xs. put_in xs i (memory i)) p.2 ∙ put_pages s.log.ordinal s.image.memory s.image.whole p.0 i p.1)
-        k.3)
+        let p = first_pages s.log.ordinal s.image.memory s.image.whole due first k.1 inside k.2.all in (
+          low,
+          flushed_to s + length first,
+          opens_as n shows low (flushed_to s + length first) (ordinal_after s.log.ordinal first) s.log.ordinal (λ i. put_in first i (memory i)) memory
+              (ap (λ xs. ordinal_after s.log.ordinal xs) p.2 ∙ ordinal_pages s.log.ordinal s.image.memory s.image.whole p.0)
+              (λ i small. ap (λ xs. put_in xs i (memory i)) p.2 ∙ put_pages s.log.ordinal s.image.memory s.image.whole p.0 i p.1)
+              k.3,
+        )
 
   -- then homes are written
   module _ (m : Disk) (w : Stands m (end_of s d.shows)) (held : Holds s d.shows (log n m.shows)) where
