@@ -19,7 +19,7 @@ use Rattle.law.specs.declared.script.Call.{Call}
 use Rattle.law.specs.declared.script.Call.TheVariants.{With, Read, Flush, Truncate}
 use Rattle.law.specs.declared.script.Slot.TheVariants.{First, Second}
 use Rattle.law.specs.Run.{Stepped}
-use Rattle.law.specs.Events.{Answer, Moment, moment, Acts, Reading, Flushing, Truncating, Traced, CutReading, does_enter, does_truncate, fits_none, commit_plan, flush_plan, truncate_plan, deed_plan}
+use Rattle.law.specs.Events.{Answer, Moment, moment, Acts, Reading, Flushing, Truncating, Traced, CutBefore, does_enter, does_truncate, fits_none, commit_plan, flush_plan, truncate_plan, deed_plan}
 use Rattle.law.proofs.Cuts.{cut_at}
 use Rattle.law.proofs.Steps.{passing}
 
@@ -132,7 +132,7 @@ truncates s d passes some =
 truncates_none : (s : State) (d : Disk) → does_truncate s d.shows ≡ false → truncate_plan s d.shows ≡ []
 truncates_none s d idle = ap (λ (b : Bool). cond b (truncation s d.shows) []) idle
 
-pub truncate_traced : (s s' : State) (d e : Disk) (a : Answer) → Truncating s d a s' e → (made : List Act) × (Traced (truncate_plan s d.shows) d made e ⊎ CutReading d made e)
+pub truncate_traced : (s s' : State) (d e : Disk) (a : Answer) → Truncating s d a s' e → (made : List Act) × (Traced (truncate_plan s d.shows) d made e ⊎ CutBefore s d made e)
 truncate_traced s s' d e a (Ok k, _, (passes, inl c)) =
     let fit = first_fit (truncate_rows s (length (due_pages s d.shows))) in
     let pages = length (dirty_pages s d.shows) in

@@ -29,7 +29,7 @@ use Rattle.transactions.specs.Truncation.{dirty_pages, due_pages, crowded, trunc
 use Rattle.law.specs.declared.script.Told.TheVariants as told
 use Rattle.law.specs.Transactions.{Transaction, made_of, batch}
 use Rattle.law.specs.History.{History, Resting, Safe, Sound}
-use Rattle.law.specs.Events.{Answer, CutAt, Traced, CutReading, fits_none, does_truncate, truncate_plan, told_truncate}
+use Rattle.law.specs.Events.{Answer, CutAt, Traced, CutBefore, fits_none, does_truncate, truncate_plan, told_truncate}
 use Rattle.law.specs.Law.{settles, with_barrier, AllKept}
 use Rattle.law.proofs.Openings.{short_plate, safe_failed}
 use Rattle.law.proofs.Committing.{all_kept, none_spooled, empty_kept, flush_cut}
@@ -201,7 +201,7 @@ module _ (n : ℕ) (s s' : State) (d e : Disk) (h : History) (w : Sound n s d h)
   TruncateKeeps a = ((k : ℕ) → a ≡ Ok (told.Truncated k) → AllKept After) × Sound n s' e After
 
   abbrev pub Made : Type 0
-  Made = Traced (truncate_plan s d.shows) d made e ⊎ CutReading d made e
+  Made = Traced (truncate_plan s d.shows) d made e ⊎ CutBefore s d made e
 
   -- one that writes nothing
   traced_if : (b : Bool) → does_truncate s d.shows ≡ b → Traced (truncate_plan s d.shows) d made e → Traced (cond b (truncation s d.shows) []) d made e
@@ -232,10 +232,10 @@ module _ (n : ℕ) (s s' : State) (d e : Disk) (h : History) (w : Sound n s d h)
     all_made : Done d (truncation s d.shows) e → made ≡ truncation s d.shows → After ≡ all_kept h.entered
     all_made done same = ap (λ (xs : List Act). with_barrier xs h.entered h.kept) same ∙ barrier_after s d h rest calm free (later_acts s d h rest calm free)
 
-    done_made : Done d (truncation s d.shows) e → Traced (truncation s d.shows) d made e ⊎ CutReading d made e → After ≡ all_kept h.entered
+    done_made : Done d (truncation s d.shows) e → Traced (truncation s d.shows) d made e ⊎ CutBefore s d made e → After ≡ all_kept h.entered
     done_made done (inl (inl (same, _))) = all_made done same
     done_made done (inl (inr (o, c))) = absurd (both_ways e.on (cut_off c.act c.reached e o c.cut) (ended s d h rest calm free e done).on)
-    done_made done (inr (_, (o, f))) = absurd (both_ways e.on (failed_off d e o f) (ended s d h rest calm free e done).on)
+    done_made done (inr (_, (o, f))) = absurd (both_ways e.on (failed_off d e o f.cut) (ended s d h rest calm free e done).on)
 
     traced_safe : Traced (truncation s d.shows) d made e → Safe n e After
     traced_safe traced = subst (λ (k : ℕ). Safe k e After) places (go traced)
@@ -246,7 +246,7 @@ module _ (n : ℕ) (s s' : State) (d e : Disk) (h : History) (w : Sound n s d h)
 
   -- what it leaves where power failed
   cut_stands : Made → Safe n e After
-  cut_stands (inr (none, (o, f))) = subst (λ (g : History). Safe n e g) (sym (after_none none)) (safe_failed n d e o h (safe n s d h w) f)
+  cut_stands (inr (none, (o, f))) = subst (λ (g : History). Safe n e g) (sym (after_none none)) (safe_failed n d e o h (safe n s d h w) f.cut)
   cut_stands (inl traced) =
       let fit = first_fit (truncate_rows s (length (due_pages s d.shows))) in
       ⊎_elim

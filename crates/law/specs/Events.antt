@@ -2,7 +2,6 @@
 use Rattle.std.specs.Prelude.{◌≡◌, ℕ, min, Bool, true, false, cond, not, ◌&&◌, ◌⊎◌, List, [], ◌∷◌, ◌++◌, length, take, replicate, Some, None, Ok, Err, Option, Result, nat_le}
 use Rattle.arrayvec.specs.ArrayVec.{array_vec_len}
 use Rattle.device.specs.Disk.{Disk, Shown}
-use Rattle.device.specs.Meaning.{Failed}
 use Rattle.device.specs.Trace.{Act, Done, Cut}
 use Rattle.image.specs.Calls.{declared, none}
 use Rattle.transactions.specs.declared.fault.StoreFault.{StoreFault}
@@ -11,7 +10,7 @@ use Rattle.transactions.specs.declared.token.Token.{Token}
 use Rattle.transactions.specs.Calls.{Begins, SetsRange, WritesRange, ReadsRange, Aborts, Flushes, Commits, writing}
 use Rattle.transactions.specs.Rows.{first_fit, token_rows, commit_rows}
 use Rattle.transactions.specs.State.{spooled, own, Opened}
-use Rattle.transactions.specs.Truncation.{dirty_pages, due_pages, truncate_rows, truncation, Truncates}
+use Rattle.transactions.specs.Truncation.{dirty_pages, due_pages, truncate_rows, truncation, CutReading, Truncates}
 use Rattle.law.specs.declared.script.Slot.{Slot}
 use Rattle.law.specs.declared.script.Slot.TheVariants.{First, Second}
 use Rattle.law.specs.declared.script.Deed.{Deed}
@@ -165,8 +164,8 @@ abbrev pub Traced : List Act → Disk → List Act → Disk → Type 0
 Traced plan d made e = ((made ≡ plan) × Done d plan e) ⊎ ((o : ℕ) × CutAt d plan made o e)
 
 -- Power failed while the live log was read, and nothing was made.
-abbrev pub CutReading : Disk → List Act → Disk → Type 0
-CutReading d made e = (made ≡ []) × ((o : ℕ) × Failed d o e)
+abbrev pub CutBefore : State → Disk → List Act → Disk → Type 0
+CutBefore s d made e = (made ≡ []) × ((o : ℕ) × CutReading s d o e)
 
 -- The tokens stay where they are.
 abbrev pub SameTokens : Moment → Moment → Type 0
@@ -182,7 +181,7 @@ TakesPlace Flush a m m' made =
     Flushing m.state m.disk a m'.state m'.disk × SameTokens m m' × Traced (flush_plan m.state) m.disk made m'.disk
 TakesPlace Truncate a m m' made =
     Truncating m.state m.disk a m'.state m'.disk × SameTokens m m'
-    × (Traced (truncate_plan m.state m.disk.shows) m.disk made m'.disk ⊎ CutReading m.disk made m'.disk)
+    × (Traced (truncate_plan m.state m.disk.shows) m.disk made m'.disk ⊎ CutBefore m.state m.disk made m'.disk)
 TakesPlace Reopen a m m' made = Opening m.disk a m'.disk m'.state × SameTokens m m' × (made ≡ [])
 
 abbrev pub Happens : Event → Type 0
