@@ -136,7 +136,8 @@ commit_plan s held flush = cond (does_enter s held flush && flush) (writing s (s
 abbrev pub flush_plan : State → List Act
 flush_plan s = cond (s.on && nat_le 1 (array_vec_len s.spool)) (writing s (spooled s)) []
 
--- A truncation reads the live log and then, if some page is dirty, writes. The reading writes nothing.
+-- A truncation that passes its tests writes, if some page is dirty. Before that it reads the live log, which writes
+-- nothing.
 abbrev pub does_truncate : State → (ℕ → Shown) → Bool
 does_truncate s shows = fits_none (first_fit (truncate_rows s (length (due_pages s shows)))) && nat_le 1 (length (dirty_pages s shows))
 
@@ -163,7 +164,7 @@ pub record CutAt (d : Disk) (plan made : List Act) (o : ℕ) (e : Disk) : Type 0
 abbrev pub Traced : List Act → Disk → List Act → Disk → Type 0
 Traced plan d made e = ((made ≡ plan) × Done d plan e) ⊎ ((o : ℕ) × CutAt d plan made o e)
 
--- Power failed while the live log was read, and nothing was made.
+-- Power failed while a truncation read the live log, and nothing was made.
 abbrev pub CutBefore : State → Disk → List Act → Disk → Type 0
 CutBefore s d made e = (made ≡ []) × ((o : ℕ) × CutReading s d o e)
 
