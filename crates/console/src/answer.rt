@@ -8,15 +8,18 @@ use transactions::StoreFault;
 #[derive(Drop)]
 pub enum Answer<'a> {
     Done,
-    // A number of sectors.
+    // How many sectors there are, records were written, or pages were dirty.
     Count(usize),
     // What a read found.
     Bytes(Vec<u8>),
     // How many transactions an opening found, and how many strays it cleared.
     Found(u64, usize),
+    // The number of the token that a begin gave.
+    Begun(u64),
+    // The ordinal of a commit, and how many records it became.
+    Committed(u64, usize),
     Shown(Shown<'a>),
     Dump(Dump<'a>),
-    NotNow,
 }
 
 impl fmt::Display for Answer<'_> {
@@ -28,39 +31,68 @@ impl fmt::Display for Answer<'_> {
                 let text = Hex(bytes.as_slice());
                 write!(f, "ok {text}")
             }
-            Answer::Found(found, strays) => write!(f, "ok {found} {strays}"),
+            Answer::Begun(number) => write!(f, "ok {number}"),
+            Answer::Found(number, count) | Answer::Committed(number, count) => {
+                write!(f, "ok {number} {count}")
+            }
             Answer::Shown(shown) => write!(f, "{shown}"),
             Answer::Dump(dump) => write!(f, "{dump}"),
-            Answer::NotNow => f.write_str("not now"),
         }
     }
 }
 
-// A refusal, the store's own or the device's that it holds: its number, and then the values that it returns.
+// Why a command is not done.
 #[derive(Clone, Copy)]
-pub struct Refusal(pub StoreFault);
+pub enum Refusal {
+    // It does not fit where the program stands.
+    NotNow,
+    // The store says no, or the device, whose fault that of the store holds.
+    Store(StoreFault),
+}
+
+impl From<StoreFault> for Refusal {
+    fn from(fault: StoreFault) -> Self {
+        Refusal::Store(fault)
+    }
+}
+
+impl From<DeviceFault> for Refusal {
+    fn from(fault: DeviceFault) -> Self {
+        Refusal::Store(fault.into())
+    }
+}
+
+// The values that a refusal returns, each with a space before it.
+fn write_values<W: fmt::Write>(f: &mut fmt::Formatter<W>, fault: &StoreFault) -> fmt::Result {
+    match fault {
+        StoreFault::Device(DeviceFault::Power(origin)) => write!(f, " {origin}"),
+        StoreFault::Device(
+            DeviceFault::Misaddressed(sector, origin) | DeviceFault::Spoiled(sector, origin),
+        ) => write!(f, " {sector} {origin}"),
+        StoreFault::Device(DeviceFault::Unfit) | StoreFault::NoLog => Ok(()),
+        StoreFault::Size(value)
+        | StoreFault::Uncovered(value)
+        | StoreFault::Range(value)
+        | StoreFault::Runs(value)
+        | StoreFault::Undeclared(value)
+        | StoreFault::SpoolFull(value) => write!(f, " {value}"),
+        StoreFault::NoMark(value)
+        | StoreFault::Busy(value)
+        | StoreFault::Stranger(value)
+        | StoreFault::Serials(value)
+        | StoreFault::Full(value) => write!(f, " {value}"),
+    }
+}
 
 impl fmt::Display for Refusal {
     fn fmt<W: fmt::Write>(&self, f: &mut fmt::Formatter<W>) -> fmt::Result {
-        let number = self.0.number();
-        write!(f, "no {number}")?;
-        match self.0 {
-            StoreFault::Device(DeviceFault::Power(origin)) => write!(f, " {origin}"),
-            StoreFault::Device(
-                DeviceFault::Misaddressed(sector, origin) | DeviceFault::Spoiled(sector, origin),
-            ) => write!(f, " {sector} {origin}"),
-            StoreFault::Device(DeviceFault::Unfit) | StoreFault::NoLog => Ok(()),
-            StoreFault::Size(value)
-            | StoreFault::Uncovered(value)
-            | StoreFault::Range(value)
-            | StoreFault::Runs(value)
-            | StoreFault::Undeclared(value)
-            | StoreFault::SpoolFull(value) => write!(f, " {value}"),
-            StoreFault::NoMark(value)
-            | StoreFault::Busy(value)
-            | StoreFault::Stranger(value)
-            | StoreFault::Serials(value)
-            | StoreFault::Full(value) => write!(f, " {value}"),
+        match self {
+            Refusal::NotNow => f.write_str("not now"),
+            Refusal::Store(fault) => {
+                let number = fault.number();
+                write!(f, "no {number}")?;
+                write_values(f, fault)
+            }
         }
     }
 }

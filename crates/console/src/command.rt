@@ -42,12 +42,31 @@ pub enum DeviceCommand {
     Restart,
 }
 
-// What begins or ends a store on the pile.
+// What makes a store on the pile.
 #[derive(Clone, Copy)]
-pub enum StoreCommand {
+pub enum Start {
     Format,
     Open,
-    Close,
+}
+
+// Whether a commit writes its records, or leaves them in the spool.
+#[derive(Clone, Copy)]
+pub enum How {
+    Flush,
+    Spool,
+}
+
+// A call of the store that is open. A read has its buffer.
+#[derive(Drop)]
+pub enum StoreCommand {
+    Begin,
+    SetRange(usize, usize),
+    WriteRange(usize, Vec<u8>),
+    ReadRange(usize, Vec<u8>),
+    Commit(How),
+    Abort,
+    Flush,
+    Truncate,
 }
 
 #[derive(Drop)]
@@ -56,13 +75,17 @@ pub enum Command {
     Use(Shape),
     End,
     Device(DeviceCommand),
+    Start(Start),
     Store(StoreCommand),
+    Close,
 }
 
-// The most sectors that a card may have, and the longest buffer that a read may be given.
+// The most sectors that a card may have, and the longest buffers that a read of a sector and of memory may be given.
 const CARD_MOST: usize = 2000;
 
 const READ_MOST: usize = 256;
+
+const READ_RANGE_MOST: usize = 8192;
 
 fn side_of(word: &str) -> Result<Side, LineFault> {
     match word {
@@ -103,11 +126,19 @@ fn pile_command(heap: Global, words: &[&str]) -> Result<Command, LineFault> {
     match words {
         ["use", rest @ ..] => Ok(Command::Use(pile(rest)?)),
         ["end"] => Ok(Command::End),
-        ["format"] => Ok(Command::Store(StoreCommand::Format)),
-        ["open"] => Ok(Command::Store(StoreCommand::Open)),
-        ["close"] => Ok(Command::Store(StoreCommand::Close)),
-        _ => Ok(Command::Device(device_command(heap, words)?)),
+        ["format"] => Ok(Command::Start(Start::Format)),
+        ["open"] => Ok(Command::Start(Start::Open)),
+        ["close"] => Ok(Command::Close),
+        ["count" | "read" | "write" | "barrier" | "restart", ..] => {
+            Ok(Command::Device(device_command(heap, words)?))
+        }
+        _ => Ok(Command::Store(store_command(heap, words)?)),
     }
+}
+
+// A buffer of the length that a word tells, up to `most`.
+fn buffer(heap: Global, length: &str, most: usize) -> Result<Vec<u8>, LineFault> {
+    Ok(vec![in heap; 0u8; size_to(length, most)?]?)
 }
 
 fn device_command(heap: Global, words: &[&str]) -> Result<DeviceCommand, LineFault> {
@@ -115,12 +146,40 @@ fn device_command(heap: Global, words: &[&str]) -> Result<DeviceCommand, LineFau
         ["count"] => Ok(DeviceCommand::Count),
         ["read", sector, length] => {
             let sector = number(sector)?;
-            let buffer = vec![in heap; 0u8; size_to(length, READ_MOST)?]?;
+            let buffer = buffer(heap, length, READ_MOST)?;
             Ok(DeviceCommand::Read(sector, buffer))
         }
         ["write", sector, hex] => Ok(DeviceCommand::Write(number(sector)?, bytes(heap, hex)?)),
         ["barrier"] => Ok(DeviceCommand::Barrier),
         ["restart"] => Ok(DeviceCommand::Restart),
+        _ => Err(LineFault::Bad),
+    }
+}
+
+fn how_of(word: &str) -> Result<How, LineFault> {
+    match word {
+        "flush" => Ok(How::Flush),
+        "spool" => Ok(How::Spool),
+        _ => Err(LineFault::Bad),
+    }
+}
+
+fn store_command(heap: Global, words: &[&str]) -> Result<StoreCommand, LineFault> {
+    match words {
+        ["begin"] => Ok(StoreCommand::Begin),
+        ["set-range", start, length] => Ok(StoreCommand::SetRange(number(start)?, number(length)?)),
+        ["write-range", start, hex] => {
+            Ok(StoreCommand::WriteRange(number(start)?, bytes(heap, hex)?))
+        }
+        ["read-range", start, length] => {
+            let start = number(start)?;
+            let buffer = buffer(heap, length, READ_RANGE_MOST)?;
+            Ok(StoreCommand::ReadRange(start, buffer))
+        }
+        ["commit", how] => Ok(StoreCommand::Commit(how_of(how)?)),
+        ["abort"] => Ok(StoreCommand::Abort),
+        ["flush"] => Ok(StoreCommand::Flush),
+        ["truncate"] => Ok(StoreCommand::Truncate),
         _ => Err(LineFault::Bad),
     }
 }

@@ -1,17 +1,18 @@
-// Where the console reads its lines and writes its answers.
+// Where the console reads its lines and writes its answers, and holds its token.
 use crate::answer::{Answer, Refusal};
 use crate::command::{Command, parse};
+use crate::held::Held;
 use crate::words::LineFault;
 use std::alloc::Global;
 use std::fmt;
 use std::io::{BufRead, BufReader, Split, Stdin};
-use transactions::StoreFault;
 
-// The runtime, and the lines of its standard input that are not read yet.
-#[derive(Drop)]
+// The runtime, the lines of its standard input that are not read yet, and the token that is held meanwhile, for
+// whose sake a desk ends by `end`.
 pub struct Desk<'a> {
     rt: &'a HostRuntime,
     lines: Split<BufReader<Stdin>>,
+    pub held: Held,
 }
 
 impl<'a> Desk<'a> {
@@ -20,7 +21,18 @@ impl<'a> Desk<'a> {
         Ok(Desk {
             rt,
             lines: input.split(rt.alloc(), b'\n'),
+            held: Held::nothing(),
         })
+    }
+
+    // Spends a token that is still held.
+    pub fn end(self) {
+        let Desk {
+            rt: _,
+            lines: _,
+            held,
+        } = self;
+        held.end();
     }
 
     pub fn heap(&self) -> Global {
@@ -46,10 +58,10 @@ impl<'a> Desk<'a> {
     }
 
     // Says what came of a call.
-    pub fn tell(&self, outcome: Result<Answer, StoreFault>) -> anyhow::Result<()> {
+    pub fn tell(&self, outcome: Result<Answer, Refusal>) -> anyhow::Result<()> {
         match outcome {
             Ok(answer) => self.say(&answer),
-            Err(fault) => self.say(&Refusal(fault)),
+            Err(refusal) => self.say(&refusal),
         }
     }
 }

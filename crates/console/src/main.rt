@@ -1,4 +1,4 @@
-// The bench console: replays device calls from standard input, a command a line, an answer a line.
+// The bench console: replays calls of devices and stores from standard input, a command a line, an answer a line.
 
 #![tactic(auto)]
 
@@ -11,10 +11,11 @@ mod answer;
 mod card;
 mod command;
 mod desk;
+mod held;
 mod serve;
 mod words;
 
-use answer::Answer;
+use answer::Refusal;
 use card::Cards;
 use command::{Command, Shape};
 use desk::Desk;
@@ -64,19 +65,27 @@ fn obey(desk: &mut Desk, cards: &mut Cards, command: Command) -> anyhow::Result<
             Err(fault) => Err(fault.into()),
         },
         Command::Use(shape) => use_shape(desk, cards, shape),
-        Command::End | Command::Device(_) | Command::Store(_) => desk.say(&Answer::NotNow),
+        // Calls of a device or a store, and the ends of what is not there.
+        _other => desk.say(&Refusal::NotNow),
     }
 }
 
-fn main(rt: HostRuntime) -> anyhow::Result<()> {
-    let mut desk = Desk::new(&rt)?;
-    let mut cards = Cards::new(rt.alloc(), CARD_SECTORS)?;
+// Works through the input.
+fn work(desk: &mut Desk, cards: &mut Cards) -> anyhow::Result<()> {
     // Counted, as in `serve::hold`.
     for _ in 0..u64::MAX {
         let Some(command) = desk.next_command()? else {
             return Ok(());
         };
-        obey(&mut desk, &mut cards, command)?;
+        obey(desk, cards, command)?;
     }
     Ok(())
+}
+
+fn main(rt: HostRuntime) -> anyhow::Result<()> {
+    let mut cards = Cards::new(rt.alloc(), CARD_SECTORS)?;
+    let mut desk = Desk::new(&rt)?;
+    let outcome = work(&mut desk, &mut cards);
+    desk.end();
+    outcome
 }
