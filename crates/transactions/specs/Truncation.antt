@@ -114,6 +114,11 @@ pub record TruncatesPages (s : State) (d : Disk) (k : ℕ) (s' : State) (e : Dis
   pub done : Done d (truncation s d.shows) e
   pub state : Truncated s (length (due_pages s d.shows)) s'
 
+-- Power failed while the live log was read, after the tests that come before that passed. Nothing was written.
+pub record CutReading (s : State) (d : Disk) (o : ℕ) (e : Disk) : Type 0 where
+  pub passes : first_fit (off s ∷ busy s ∷ serials s 0 ∷ []) ≡ None
+  pub cut : Failed d o e
+
 -- Power failed in a call of the plan, after all tests passed.
 pub record CutWritingHome (s : State) (d : Disk) (o : ℕ) (e : Disk) : Type 0 where
   pub passes : first_fit (truncate_rows s (length (due_pages s d.shows))) ≡ None
@@ -124,7 +129,7 @@ pub record CutWritingHome (s : State) (d : Disk) (o : ℕ) (e : Disk) : Type 0 w
 pub record TruncateCut (s : State) (d : Disk) (f : StoreFault) (s' : State) (e : Disk) : Type 0 where
   pub origin : ℕ
   pub fault : f ≡ Device (Power origin)
-  pub cut : Failed d origin e ⊎ CutWritingHome s d origin e
+  pub cut : CutReading s d origin e ⊎ CutWritingHome s d origin e
   pub image : s'.image ≡ s.image
   pub off : s'.on ≡ false
 
