@@ -10,6 +10,7 @@ use mirror::Mirror;
 use std::fmt;
 
 mod reopening;
+mod truncating;
 
 // Where the story keeps its line of text, and how many sectors a card has.
 const PLACE: usize = 5;
@@ -25,7 +26,7 @@ fn sector_of(text: &[u8]) -> [u8; SECTOR] {
 }
 
 // The text at the front of a sector, up to its first zero.
-fn text_of(sector: &[u8]) -> &[u8] {
+pub fn text_of(sector: &[u8]) -> &[u8] {
     match sector.iter().position(|b| *b == 0) {
         Some(end) => &sector[..end],
         None => sector,
@@ -117,7 +118,7 @@ fn tell_pile<L: Device + Drop, R: Device + Drop>(
 
 // A device over each card. Where both are refused, the left one's refusal answers. So does the console, whose cards
 // are one struct: a function of both would be no plainer.
-fn devices<'a>(
+pub fn devices<'a>(
     left: &'a mut Card,
     right: &'a mut Card,
 ) -> Result<(Bench<'a>, Bench<'a>), DeviceFault> {
@@ -154,5 +155,7 @@ fn tell_pair(rt: &HostRuntime) -> anyhow::Result<()> {
 fn main(rt: HostRuntime) -> anyhow::Result<()> {
     tell_pair(&rt)?;
     println!(rt; "")?;
-    reopening::tell_reopening(&rt)
+    reopening::tell_reopening(&rt)?;
+    println!(rt; "")?;
+    truncating::tell_truncating(&rt)
 }

@@ -8,7 +8,7 @@ use transactions::{Store, StoreFault};
 
 // A store's refusal as the story tells it.
 #[derive(Clone, Copy)]
-struct StoreRefusal(StoreFault);
+pub struct StoreRefusal(pub StoreFault);
 
 impl fmt::Display for StoreRefusal {
     fn fmt<W: fmt::Write>(&self, f: &mut fmt::Formatter<W>) -> fmt::Result {

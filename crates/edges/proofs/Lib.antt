@@ -1,0 +1,6 @@
+-- Lemmas on the worked edges.
+pub mod Sizes
+pub mod Ranges
+pub mod Room
+pub mod Gaps
+pub mod Samples
