@@ -1,0 +1,2 @@
+-- Lemmas on the book.
+pub mod Examples
