@@ -1,2 +1,3 @@
 -- Lemmas on the book.
 pub mod Examples
+pub mod Contents
