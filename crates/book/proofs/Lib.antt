@@ -1,2 +1,5 @@
 -- Lemmas on the book.
 pub mod Examples
+pub mod Standing
+pub mod Places
+pub mod Chaining
