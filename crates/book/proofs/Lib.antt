@@ -3,3 +3,5 @@ pub mod Examples
 pub mod Standing
 pub mod Places
 pub mod Chaining
+pub mod Threads
+pub mod Keeping
