@@ -5,3 +5,4 @@ pub mod Places
 pub mod Chaining
 pub mod Threads
 pub mod Keeping
+pub mod Putting
