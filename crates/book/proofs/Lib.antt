@@ -6,3 +6,5 @@ pub mod Chaining
 pub mod Threads
 pub mod Keeping
 pub mod Putting
+pub mod Sums
+pub mod Passing
