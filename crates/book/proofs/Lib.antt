@@ -8,3 +8,4 @@ pub mod Keeping
 pub mod Putting
 pub mod Sums
 pub mod Passing
+pub mod Beside
