@@ -11,3 +11,4 @@ pub mod Sums
 pub mod Passing
 pub mod Beside
 pub mod Cutting
+pub mod Taking
