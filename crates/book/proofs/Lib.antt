@@ -12,3 +12,4 @@ pub mod Passing
 pub mod Beside
 pub mod Cutting
 pub mod Taking
+pub mod Finding
