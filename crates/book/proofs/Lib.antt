@@ -9,3 +9,4 @@ pub mod Putting
 pub mod Sums
 pub mod Passing
 pub mod Beside
+pub mod Changes
