@@ -1,18 +1,18 @@
 -- Each call that no test refuses takes the book that the memory holds to the book after it.
-use Rattle.std.proofs.Common.{◌≡◌, ℕ, ◌+◌, ◌-◌, ◌*◌, ◌%◌, ◌^◌, ◌<◌, ◌≤◌, ◌≢◌, ◌⊎◌, false, true, List, [], ◌∷◌, length, map, Some, None, Option, refl, sym, ap, ◌∙◌, subst, inl, inr, ⊎_elim, arith, sum}
+use Rattle.std.proofs.Common.{◌≡◌, ℕ, ◌+◌, ◌-◌, ◌^◌, ◌<◌, ◌≤◌, ◌≢◌, false, List, [], ◌∷◌, length, map, Some, None, Option, refl, sym, ap, ◌∙◌, subst, inl, inr, ⊎_elim, arith}
 use Rattle.std.proofs.lemmas.Bool.{cases_eq}
 use Rattle.record.specs.Fields.{digits}
 use Rattle.book.specs.declared.records.Tag.{Tag}
 use Rattle.book.specs.declared.records.Entry.{Entry}
 use Rattle.book.specs.Records.{bucket_of, entry_kind, entry_content, tag_kind, tag_content}
 use Rattle.book.specs.Layout.{Stands, balance_at, bucket_chain, cell, Cell}
-use Rattle.book.specs.Book.{Book, At, at, IsAccount, Money, Zeros, Records, Chains, Holds, GoodEntries, GoodTags, cells_of, entry_cell, tag_cell, sum_to}
-use Rattle.book.specs.Rows.{first_fit, issue_rows, move_rows, visit_rows, enrol_rows, paying_rows, no_account, same, nothing, short, no_cell, too_much, present, account_of, account_in, is_empty}
-use Rattle.book.specs.Edits.{Edit, edit, after_edits, head_or_0, rest_of, put_in_front, with_at, issue_edits, issued_to, entry, move_edits, moved, paying_edits, visit_edits, paid, visited, tag, enrol_edits, enrolled}
+use Rattle.book.specs.Book.{Book, At, at, IsAccount, Money, Records, Holds, GoodEntries, GoodTags, cells_of, entry_cell, tag_cell, sum_to}
+use Rattle.book.specs.Rows.{first_fit, issue_rows, move_rows, visit_rows, enrol_rows, paying_rows, no_account, same, nothing, short, no_cell, too_much, present, account_of, is_empty}
+use Rattle.book.specs.Edits.{Edit, edit, after_edits, head_or_0, with_at, issue_edits, issued_to, entry, move_edits, moved, paying_edits, visit_edits, paid, visited, tag, enrol_edits, enrolled}
 use Rattle.book.proofs.Standing.{put, put_stands, edits_keep, digits_length, entry_length, tag_length}
 use Rattle.book.proofs.Places.{total_balance, balances_apart}
 use Rattle.book.proofs.Keeping.{misses, stands_first, number_kept}
-use Rattle.book.proofs.Threads.{chain_cases, cells_free, cells_account, cells_bucket, cells_tags}
+use Rattle.book.proofs.Threads.{chain_cases, cells_account, cells_bucket, cells_tags}
 use Rattle.book.proofs.Sums.{with_same, with_other, sum_changed, sum_least}
 use Rattle.book.proofs.Passing.{none_fits, is_one, not_same, not_less, no_tag, tag_account}
 use Rattle.book.proofs.Beside.{AllMoney, total_is_money, balance_is_money, chains_beside, zeros_beside, InFront, holds_in_front}
@@ -23,8 +23,8 @@ module _ (f : ℕ → ℕ) (b : Book) (a amount : ℕ) (h : Holds f b) (i : IsAc
   issued_money =
       record {
         issued =
-          stands_first 0 8 (digits 8 (b.issued + amount)) (edit (balance_at a) (digits 8 (b.balances a + amount)) ∷ []) f (digits_length 8 (b.issued + amount))
-          (misses 0 8 (balance_at a) 8 (digits 8 (b.balances a + amount)) (digits_length 8 (b.balances a + amount)) (inl (total_balance a i)), tt);
+            stands_first 0 8 (digits 8 (b.issued + amount)) (edit (balance_at a) (digits 8 (b.balances a + amount)) ∷ []) f (digits_length 8 (b.issued + amount))
+            (misses 0 8 (balance_at a) 8 (digits 8 (b.balances a + amount)) (digits_length 8 (b.balances a + amount)) (inl (total_balance a i)), tt);
         balance = balance;
         bound = fits;
         sum = total;
@@ -40,9 +40,10 @@ module _ (f : ℕ → ℕ) (b : Book) (a amount : ℕ) (h : Holds f b) (i : IsAc
           (λ (ne : d ≢ a).
           subst (λ (v : ℕ). Stands (after_edits (issue_edits b a amount) f) (balance_at d) (digits 8 v)) (sym (with_other a (b.balances a + amount) b.balances d ne))
           (number_kept f (after_edits (issue_edits b a amount) f) (balance_at d) 8 (b.balances d)
-          (edits_keep (issue_edits b a amount) f (balance_at d) 8
-          (misses (balance_at d) 8 0 8 (digits 8 (b.issued + amount)) (digits_length 8 (b.issued + amount)) (inr (total_balance d j)),
-          (misses (balance_at d) 8 (balance_at a) 8 (digits 8 (b.balances a + amount)) (digits_length 8 (b.balances a + amount)) (balances_apart d a ne), tt)))
+          (edits_keep (issue_edits b a amount) f (balance_at d) 8 (
+            misses (balance_at d) 8 0 8 (digits 8 (b.issued + amount)) (digits_length 8 (b.issued + amount)) (inr (total_balance d j)),
+            (misses (balance_at d) 8 (balance_at a) 8 (digits 8 (b.balances a + amount)) (digits_length 8 (b.balances a + amount)) (balances_apart d a ne), tt),
+          ))
           (h.money.balance d j)))
           (cases_eq d a)
 
@@ -98,9 +99,10 @@ module _ (f : ℕ → ℕ) (b : Book) (payer payee amount : ℕ) (h : Holds f b)
       (λ (nq : d ≢ payee).
       subst (λ (v : ℕ). Stands (after_edits (paying payer payee amount b) f) (balance_at d) (digits 8 v)) (sym (with_other payee (b.balances payee + amount) b.balances d nq))
       (number_kept f (after_edits (paying payer payee amount b) f) (balance_at d) 8 (b.balances d)
-      (edits_keep (paying payer payee amount b) f (balance_at d) 8
-      (misses (balance_at d) 8 (balance_at payer) 8 (digits 8 (b.balances payer - amount)) (digits_length 8 (b.balances payer - amount)) (balances_apart d payer np),
-      (misses (balance_at d) 8 (balance_at payee) 8 (digits 8 (b.balances payee + amount)) (digits_length 8 (b.balances payee + amount)) (balances_apart d payee nq), tt)))
+      (edits_keep (paying payer payee amount b) f (balance_at d) 8 (
+        misses (balance_at d) 8 (balance_at payer) 8 (digits 8 (b.balances payer - amount)) (digits_length 8 (b.balances payer - amount)) (balances_apart d payer np),
+        (misses (balance_at d) 8 (balance_at payee) 8 (digits 8 (b.balances payee + amount)) (digits_length 8 (b.balances payee + amount)) (balances_apart d payee nq), tt),
+      ))
       (h.money.balance d k)))
       (cases_eq d payee)))
       (cases_eq d payer)
@@ -117,11 +119,12 @@ module _ (f : ℕ → ℕ) (b : Book) (payer payee amount : ℕ) (h : Holds f b)
   moved_money =
       record {
         issued =
-          number_kept f (after_edits (paying payer payee amount b) f) 0 8 b.issued
-          (edits_keep (paying payer payee amount b) f 0 8
-          (misses 0 8 (balance_at payer) 8 (digits 8 (b.balances payer - amount)) (digits_length 8 (b.balances payer - amount)) (inl (total_balance payer i)),
-          (misses 0 8 (balance_at payee) 8 (digits 8 (b.balances payee + amount)) (digits_length 8 (b.balances payee + amount)) (inl (total_balance payee j)), tt)))
-          h.money.issued;
+            number_kept f (after_edits (paying payer payee amount b) f) 0 8 b.issued
+            (edits_keep (paying payer payee amount b) f 0 8 (
+              misses 0 8 (balance_at payer) 8 (digits 8 (b.balances payer - amount)) (digits_length 8 (b.balances payer - amount)) (inl (total_balance payer i)),
+              (misses 0 8 (balance_at payee) 8 (digits 8 (b.balances payee + amount)) (digits_length 8 (b.balances payee + amount)) (inl (total_balance payee j)), tt),
+            ))
+            h.money.issued;
         balance = repaid_stands;
         bound = h.money.bound;
         sum = repaid_sum;
@@ -216,3 +219,72 @@ visit_holds f b id guard h none =
         let p3 = none_fits (no_cell b payer) [] p2.1 in
         let i = tag_account id (bucket_of id) payer (b.tags (bucket_of id)) (h.records.tags (bucket_of id) (omega arith)) e in
         moving_holds f b payer guard 1 h i j (not_same payer guard p1.0) (not_less (b.balances payer) 1 p2.0) p3.0
+
+-- enrol: the tag is in front of its bucket
+not_present : (o : Option ℕ) → (present o).0 ≡ false → o ≡ None
+not_present None h = refl
+not_present (Some a) h = cc
+
+module _ (f : ℕ → ℕ) (b : Book) (id : List ℕ) (a : ℕ) (long : length id ≡ 8) (h : Holds f b) (i : IsAccount a) (new : account_of b id ≡ None) (some : is_empty b.free ≡ false) where
+  enrolled_records : Records (enrolled id a b)
+  enrolled_records = record { entries = h.records.entries; tags = tags }
+    where
+      front : GoodTags (bucket_of id) (at (head_or_0 b.free) (tag id a) ∷ b.tags (bucket_of id))
+      front =
+          ((long, omega (arith, i.1)), i, refl, no_tag id (b.tags (bucket_of id)) new, h.records.tags (bucket_of id) (omega arith))
+
+      tags : (k : ℕ) → k < 16 → GoodTags k (with_at (bucket_of id) (at (head_or_0 b.free) (tag id a) ∷ b.tags (bucket_of id)) b.tags k)
+      tags k l =
+          ⊎_elim
+          (λ (e : k ≡ bucket_of id).
+          subst (λ (n : ℕ). GoodTags n (with_at (bucket_of id) (at (head_or_0 b.free) (tag id a) ∷ b.tags (bucket_of id)) b.tags n)) (sym e)
+          (subst (GoodTags (bucket_of id)) (sym (with_same (bucket_of id) (at (head_or_0 b.free) (tag id a) ∷ b.tags (bucket_of id)) b.tags)) front))
+          (λ (ne : k ≢ bucket_of id).
+          subst (GoodTags k) (sym (with_other (bucket_of id) (at (head_or_0 b.free) (tag id a) ∷ b.tags (bucket_of id)) b.tags k ne)) (h.records.tags k l))
+          (cases_eq k (bucket_of id))
+
+  enrolled_front : InFront b (enrolled id a b) (bucket_chain (bucket_of id)) tag_kind (tag_content (tag id a))
+  enrolled_front =
+      record {
+        some = omega arith;
+        below = omega arith;
+        long = tag_length (tag id a) long;
+        free = some;
+        after = refl;
+        front = front;
+        others = others;
+      }
+    where
+      front : cells_of (enrolled id a b) (bucket_chain (bucket_of id)) ≡ cell (head_or_0 b.free) tag_kind (tag_content (tag id a)) ∷ cells_of b (bucket_chain (bucket_of id))
+      front =
+          cells_tags (enrolled id a b) (bucket_of id) (omega arith)
+          ∙ ap (λ (xs : List (At Tag)). map tag_cell xs) (with_same (bucket_of id) (at (head_or_0 b.free) (tag id a) ∷ b.tags (bucket_of id)) b.tags)
+          ∙ ap (λ (cs : List Cell). cell (head_or_0 b.free) tag_kind (tag_content (tag id a)) ∷ cs) (sym (cells_tags b (bucket_of id) (omega arith)))
+
+      others : (d : ℕ) → d < 81 → d ≢ 0 → d ≢ bucket_chain (bucket_of id) → cells_of (enrolled id a b) d ≡ cells_of b d
+      others d l nz np =
+          elim (chain_cases d l) [
+            | inl e ↦ absurd (nz e)
+            | inr (inl k) ↦ cells_account (enrolled id a b) d k ∙ sym (cells_account b d k)
+            | inr (inr k) ↦
+                cells_bucket (enrolled id a b) d k
+                ∙ ap (λ (xs : List (At Tag)). map tag_cell xs)
+                (with_other (bucket_of id) (at (head_or_0 b.free) (tag id a) ∷ b.tags (bucket_of id)) b.tags (d - 65)
+                (λ (e : d - 65 ≡ bucket_of id). np (omega (arith, k.0))))
+                ∙ sym (cells_bucket b d k)
+          ]
+
+  enrolling_holds : Holds (after_edits (enrol_edits b id a) f) (enrolled id a b)
+  enrolling_holds =
+      holds_in_front f b (enrolled id a b) (bucket_chain (bucket_of id)) tag_kind (tag_content (tag id a)) enrolled_front
+      h.records h.chains
+      (record { issued = h.money.issued; balance = h.money.balance; bound = h.money.bound; sum = h.money.sum })
+      h.zeros enrolled_records
+
+pub enrol_holds : (f : ℕ → ℕ) (b : Book) (id : List ℕ) (a : ℕ) → length id ≡ 8 → Holds f b → first_fit (enrol_rows b id a) ≡ None
+    → Holds (after_edits (enrol_edits b id a) f) (enrolled id a b)
+enrol_holds f b id a long h none =
+    let p = none_fits (no_account a) (present (account_of b id) ∷ no_cell b a ∷ []) none in
+    let q = none_fits (present (account_of b id)) (no_cell b a ∷ []) p.1 in
+    let r = none_fits (no_cell b a) [] q.1 in
+    enrolling_holds f b id a long h (is_one a p.0) (not_present (account_of b id) q.0) r.0
