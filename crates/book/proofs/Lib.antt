@@ -13,3 +13,5 @@ pub mod Beside
 pub mod Cutting
 pub mod Taking
 pub mod Finding
+pub mod Changes
+pub mod Unlinking
