@@ -15,3 +15,4 @@ pub mod Taking
 pub mod Finding
 pub mod Changes
 pub mod Unlinking
+pub mod Making
