@@ -1,14 +1,11 @@
 -- A cell is taken out of a chain, wherever it is in it, and becomes the front free cell: the chains after it.
-use Rattle.std.proofs.Common.{◌≡◌, ℕ, ◌+◌, ◌<◌, ◌≤◌, ◌≢◌, ◌⊎◌, List, [], ◌∷◌, ◌++◌, length, sym, refl, ◌∙◌, subst, inl, inr, ⊎_elim, arith}
+use Rattle.std.proofs.Common.{◌≡◌, ℕ, ◌+◌, ◌≤◌, ◌≢◌, ◌⊎◌, List, [], ◌∷◌, ◌++◌, length, sym, refl, subst, inl, inr, ⊎_elim, arith}
 use Rattle.std.proofs.lemmas.Bool.{cases_eq}
 use Rattle.record.specs.Fields.{digits}
-use Rattle.book.specs.Layout.{Stands, head_at, cell_at, Cell, held, whole, InCells, first_of, Chain, Lies}
-use Rattle.book.specs.Edits.{Edit, edit, after_edits}
-use Rattle.book.proofs.Standing.{Kept, AllMiss, put, stands_kept, kept_shorter, edits_keep, whole_next, whole_held, whole_length, held_length, digits_length}
-use Rattle.book.proofs.Places.{Apart, heads_apart, cells_apart, head_cell}
-use Rattle.book.proofs.Keeping.{misses, stands_first}
-use Rattle.book.proofs.Chaining.{AllWhole, lies_in, once, chain_moved, chain_kept}
-use Rattle.book.proofs.Threads.{Threads}
+use Rattle.book.specs.Layout.{Stands, cell_at, Cell, held, first_of, Chain, Lies}
+use Rattle.book.proofs.Standing.{Kept, stands_kept, kept_shorter, held_length, digits_length}
+use Rattle.book.proofs.Places.{Apart, cells_apart}
+use Rattle.book.proofs.Chaining.{AllWhole, once, chain_moved}
 
 -- the place of the index that leads on from these cells
 abbrev pub after_last : ℕ → List Cell → ℕ
@@ -64,9 +61,10 @@ shorter a b (inl h) = inl (omega arith)
 shorter a b (inr h) = inr (omega arith)
 
 pub next_outside : (f : ℕ → ℕ) (a : ℕ) (c : Cell) (cs : List Cell) → Chain f a (c ∷ cs) → Outside (cell_at c.number) cs
-next_outside f a c cs h =
-    (λ n l. shorter (cell_at c.number) (cell_at n) (cells_apart c.number n (λ (e : c.number ≡ n). once f a c cs h (subst (λ (m : ℕ). Lies m cs) (sym e) l))),
-    inr (omega arith))
+next_outside f a c cs h = (
+  λ n l. shorter (cell_at c.number) (cell_at n) (cells_apart c.number n (λ (e : c.number ≡ n). once f a c cs h (subst (λ (m : ℕ). Lies m cs) (sym e) l))),
+  inr (omega arith),
+)
 
 -- nor does the one that leads to x
 pub link_outside : (f : ℕ → ℕ) (a : ℕ) (xs : List Cell) (x : Cell) (ys : List Cell) → Chain f a (xs ++ x ∷ ys) → Outside a (xs ++ x ∷ ys)
@@ -122,11 +120,14 @@ cut_chain f g a (c ∷ xs) x ys w h o k s = (
   where
     last : (m : ℕ) × Lies m (c ∷ xs) × (after_last a (c ∷ xs) ≡ cell_at m)
     last = last_in a c xs
+
     first_link : Apart a 2 (after_last (cell_at c.number) xs) 2
     first_link =
         subst (λ (l : ℕ). Apart a 2 l 2) (sym last.2)
         (narrow a 2 (cell_at last.0) 24 2 (omega arith) (o.0 last.0 (lies_front last.0 (c ∷ xs) (x ∷ ys) last.1)))
+
     held_link : Apart (cell_at c.number + 2) 22 (after_last (cell_at c.number) xs) 2
     held_link = subst (λ (l : ℕ). Apart (cell_at c.number + 2) 22 l 2) (sym last.2) (held_apart c.number last.0)
+
     not_x : c.number ≢ x.number
     not_x e = once f a c (xs ++ x ∷ ys) h (subst (λ (n : ℕ). Lies n (xs ++ x ∷ ys)) (sym e) (lies_back x.number xs (x ∷ ys) (inl refl)))

@@ -1,8 +1,6 @@
 -- A tag found in its bucket: where it is, and what is left without it.
-use Rattle.std.proofs.Common.{◌≡◌, ℕ, ◌≢◌, Bool, true, false, cond, List, [], ◌∷◌, ◌++◌, map, Some, None, Option, bytes_eq, refl, sym, ap, ◌∙◌}
+use Rattle.std.proofs.Common.{◌≡◌, ℕ, Bool, true, false, cond, List, [], ◌∷◌, ◌++◌, map, Some, None, Option, bytes_eq, refl, sym, ap, ◌∙◌}
 use Rattle.book.specs.declared.records.Tag.{Tag}
-use Rattle.book.specs.declared.fault.LedgerFault.{LedgerFault}
-use Rattle.book.specs.Records.{bucket_of}
 use Rattle.book.specs.Layout.{Cell, cell_at, first_of}
 use Rattle.book.specs.Book.{At, tag_cell, NoTag, GoodTags}
 use Rattle.book.specs.Rows.{account_in, first_fit, unknown}
@@ -26,6 +24,7 @@ found id link (x ∷ xs) p h = go (bytes_eq x.item.id id) refl (found id (cell_a
   where
     here : Place
     here = record { link = link; number = x.number; next = first_of (map tag_cell xs) }
+
     go : (t : Bool) → bytes_eq x.item.id id ≡ t → (place_in id (cell_at x.number) xs ≡ Some p → Found id (cell_at x.number) xs p)
         → cond t (Some (record { link = link; number = x.number; next = first_of (map tag_cell xs) })) (place_in id (cell_at x.number) xs) ≡ Some p → Found id link (x ∷ xs) p
     go true e rest h =

@@ -1,13 +1,13 @@
 -- Make turns a memory of zeros into the ledger of an empty book.
-use Rattle.std.proofs.Common.{◌≡◌, ℕ, zero, suc, ◌+◌, ◌*◌, ◌<◌, ◌≤◌, ◌≢◌, ◌⊎◌, ◌==◌, cond, List, [], ◌∷◌, ◌++◌, length, get_or, map, replicate, refl, sym, ap, ◌∙◌, subst, inl, inr, ⊎_elim, arith, length-append}
+use Rattle.std.proofs.Common.{◌≡◌, ℕ, zero, suc, ◌+◌, ◌*◌, ◌<◌, ◌≤◌, ◌≢◌, ◌==◌, cond, [], ◌∷◌, length, get_or, map, replicate, refl, sym, ap, ◌∙◌, subst, inl, inr, ⊎_elim, arith, length-append}
 use Rattle.std.proofs.lemmas.Bool.{cases_eq, cases_lt, eq-eqb, ne_eqb}
 use Rattle.std.proofs.lemmas.List.{length-replicate, get_or-replicate}
 use Rattle.record.specs.Fields.{digits}
-use Rattle.book.specs.Layout.{Stands, balance_at, head_at, cell_at, Cell, held, whole, InCells, Chain, Lies}
-use Rattle.book.specs.Book.{IsAccount, sum_to, Money, Chains, Records, Zeros, Holds, free_cell, cells_of, numbers_from, new_book}
+use Rattle.book.specs.Layout.{Stands, balance_at, head_at, cell_at, whole, Chain, Lies}
+use Rattle.book.specs.Book.{sum_to, Money, Chains, Zeros, Holds, free_cell, cells_of, numbers_from, new_book}
 use Rattle.book.specs.Edits.{edit, after_edits, head_or_0, free_chain, make_edits}
-use Rattle.book.proofs.Standing.{Kept, AllMiss, put, put_stands, stands_kept, kept_shorter, edits_keep, stands_front, stands_back, whole_next, whole_held, whole_length, blank_length, digits_length}
-use Rattle.book.proofs.Places.{Apart, head_within, heads_apart, balance_head, zeros_head}
+use Rattle.book.proofs.Standing.{Kept, put, put_stands, edits_keep, stands_front, stands_back, whole_next, whole_held, whole_length, blank_length, digits_length}
+use Rattle.book.proofs.Places.{Apart, head_within, heads_apart}
 use Rattle.book.proofs.Keeping.{misses, stands_first}
 use Rattle.book.proofs.Threads.{chain_cases, cells_account, cells_bucket}
 
@@ -59,8 +59,7 @@ chain_from g n zero a low sum link s = link
 chain_from g n (suc k) a low sum link s =
     let here = stands_front g (cell_at n) (whole (cond (n == 200) 0 (n + 1)) (free_cell n)) (free_chain (n + 1) k) s in
     let e : cell_at n + length (whole (cond (n == 200) 0 (n + 1)) (free_cell n)) ≡ cell_at (n + 1) =
-    omega (arith, whole_length (cond (n == 200) 0 (n + 1)) (free_cell n) blank_length) in
-    (
+    omega (arith, whole_length (cond (n == 200) 0 (n + 1)) (free_cell n) blank_length) in (
       link,
       (low, omega arith),
       whole_held g (cell_at n) (cond (n == 200) 0 (n + 1)) (free_cell n) here,

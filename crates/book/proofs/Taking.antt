@@ -3,12 +3,12 @@ use Rattle.std.proofs.Common.{◌≡◌, ℕ, ◌+◌, ◌<◌, ◌≤◌, ◌�
 use Rattle.std.proofs.lemmas.Bool.{cases_eq}
 use Rattle.record.specs.Fields.{digits}
 use Rattle.book.specs.Layout.{Stands, balance_at, head_at, cell_at, Cell, whole, InCells, first_of, Chain, Lies}
-use Rattle.book.specs.Book.{Book, IsAccount, Money, Zeros}
+use Rattle.book.specs.Book.{Book, Money, Zeros}
 use Rattle.book.specs.Edits.{Edit, edit, after_edits}
 use Rattle.book.proofs.Standing.{Kept, AllMiss, put, edits_keep, whole_next, whole_held, whole_length, digits_length}
 use Rattle.book.proofs.Places.{Apart, head_within, heads_apart, cells_apart, head_cell, balance_head, zeros_head}
 use Rattle.book.proofs.Keeping.{misses, stands_first, money_kept, zeros_kept}
-use Rattle.book.proofs.Chaining.{AllWhole, lies_in, chain_link, chain_moved, chain_kept, first_below}
+use Rattle.book.proofs.Chaining.{AllWhole, lies_in, chain_moved, chain_kept}
 use Rattle.book.proofs.Threads.{Threads}
 use Rattle.book.proofs.Cutting.{after_last, link_cases, lies_front, lies_back, lies_left, lies_more, whole_left, not_left, Outside, link_outside, KeptBeside, cut_chain}
 
@@ -67,9 +67,10 @@ module _ (f : ℕ → ℕ) (old new : ℕ → List Cell) (c : ℕ) (before : Lis
   elsewhere m n d h ne l k e = ne (t.one n d c h p.below k (subst (λ (i : ℕ). Lies i (old c)) (sym e) l))
 
   outside : Outside (head_at c) (before ++ x ∷ rest)
-  outside =
-      (λ n l. inl (head_cell c n p.below (lies_in f (head_at c) n (before ++ x ∷ rest) was_chain l)),
-      heads_apart c 0 not_free)
+  outside = (
+    λ n l. inl (head_cell c n p.below (lies_in f (head_at c) n (before ++ x ∷ rest) was_chain l)),
+    heads_apart c 0 not_free,
+  )
 
   linked : Outside (after_last (head_at c) before) (x ∷ rest)
   linked = link_outside f (head_at c) before x rest was_chain outside

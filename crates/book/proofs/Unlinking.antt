@@ -1,13 +1,13 @@
 -- Drop and collect take the book that the memory holds to the book after them.
-use Rattle.std.proofs.Common.{◌≡◌, ℕ, ◌+◌, ◌-◌, ◌<◌, ◌≤◌, ◌≢◌, Bool, true, false, List, [], ◌∷◌, ◌++◌, length, map, Some, None, Option, refl, sym, ap, ◌∙◌, subst, inl, inr, ⊎_elim, arith}
+use Rattle.std.proofs.Common.{◌≡◌, ℕ, ◌-◌, ◌<◌, ◌≤◌, ◌≢◌, false, List, [], ◌∷◌, ◌++◌, map, None, Option, refl, sym, ap, ◌∙◌, subst, inl, inr, ⊎_elim, arith}
 use Rattle.std.proofs.lemmas.Bool.{cases_eq}
 use Rattle.book.specs.declared.records.Tag.{Tag}
 use Rattle.book.specs.declared.records.Entry.{Entry}
 use Rattle.book.specs.Records.{bucket_of}
 use Rattle.book.specs.Layout.{head_at, bucket_chain, Cell, first_of}
-use Rattle.book.specs.Book.{Book, At, IsAccount, Money, Zeros, Records, Holds, GoodEntries, GoodTags, cells_of, free_cell, entry_cell, tag_cell}
+use Rattle.book.specs.Book.{Book, At, IsAccount, Money, Records, Holds, GoodEntries, GoodTags, cells_of, free_cell, entry_cell, tag_cell}
 use Rattle.book.specs.Rows.{first_fit, is_empty, account_of, drop_rows, collect_rows, no_account, no_entry}
-use Rattle.book.specs.Edits.{after_edits, head_or_0, rest_of, with_at, unlink, Place, place_of, taking_out, without, freed, drop_edits, dropped, collect_edits, collected}
+use Rattle.book.specs.Edits.{after_edits, rest_of, with_at, unlink, Place, taking_out, without, freed, drop_edits, dropped, collect_edits, collected}
 use Rattle.book.proofs.Standing.{blank_length}
 use Rattle.book.proofs.Threads.{Threads, threads, chains_of, chain_cases, cells_account, cells_bucket, cells_tags}
 use Rattle.book.proofs.Sums.{with_same, with_other}
