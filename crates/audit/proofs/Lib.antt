@@ -1,0 +1,2 @@
+-- Lemmas on what stands in a memory.
+pub mod Numbers

@@ -1,0 +1,2 @@
+-- What it is for a memory to be judged.
+pub mod Judging

@@ -1,0 +1,6 @@
+// Whether a memory is that of a ledger.
+
+#![tactic(auto)]
+
+mod bytes;
+mod zeros;
