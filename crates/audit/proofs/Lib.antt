@@ -1,2 +1,4 @@
 -- Lemmas on what stands in a memory.
 pub mod Numbers
+pub mod Standing
+pub mod Sums

@@ -3,4 +3,5 @@
 #![tactic(auto)]
 
 mod bytes;
+mod money;
 mod zeros;
