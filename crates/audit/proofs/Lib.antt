@@ -2,3 +2,6 @@
 pub mod Numbers
 pub mod Standing
 pub mod Sums
+pub mod Walks
+pub mod Marking
+pub mod Owning

@@ -1,2 +1,3 @@
 -- What it is for a memory to be judged.
 pub mod Judging
+pub mod Owners

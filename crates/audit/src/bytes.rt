@@ -1,7 +1,8 @@
 // The bytes and numbers that stand in a memory.
-ghost use Rattle.std.specs.Prelude.{◌+◌, ◌≤◌, ◌↔◌, IsTrue, replicate};
+ghost use Rattle.std.specs.Prelude.{◌≡◌, ◌+◌, ◌≤◌, ◌↔◌, IsTrue, replicate};
 ghost use Rattle.record.specs.Fields.{digits};
 ghost use Rattle.book.specs.Layout.{byte_in, Stands};
+ghost use Rattle.audit.specs.Owners.{index_at};
 
 use transactions::MEMORY;
 
@@ -21,12 +22,12 @@ pub(crate) fn long(memory: &[u8; MEMORY], at: usize) -> u64
     u64::from_le_bytes(part(memory, at))
 }
 
-// The number in the 2 bytes from `at` on.
-pub(crate) fn short(memory: &[u8; MEMORY], at: usize) -> u16
+// The index in the 2 bytes from `at` on.
+pub(crate) fn index(memory: &[u8; MEMORY], at: usize) -> usize
     requires { at + 2 ≤ MEMORY }
-    ensures { Stands (byte_in memory.now) at (digits 2 result) }
+    ensures { result ≡ index_at (byte_in memory.now) at }
 {
-    u16::from_le_bytes(part(memory, at))
+    u16::from_le_bytes(part(memory, at)) as usize
 }
 
 // Whether so many zeros stand there.

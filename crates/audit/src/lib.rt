@@ -4,4 +4,5 @@
 
 mod bytes;
 mod money;
+mod owners;
 mod zeros;

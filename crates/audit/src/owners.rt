@@ -1,0 +1,74 @@
+// Which chain each cell lies on.
+ghost use Rattle.std.specs.Prelude.{◌≡◌, ◌+◌, ◌<◌, ◌≤◌};
+ghost use Rattle.book.specs.Layout.{byte_in, head_at, cell_at, InCells};
+ghost use Rattle.audit.specs.Owners.{index_at, Follows, Finds};
+
+use crate::bytes::index;
+use transactions::MEMORY;
+
+// The number of cells.
+pub(crate) const CELLS: usize = 200;
+
+// The chains: the free one, one for each account, one for each bucket.
+const CHAINS: usize = 81;
+
+// The number of the chain that each cell was met on.
+pub(crate) type Owners = [Option<usize>; CELLS];
+
+// The owners of all cells, if no cell is met twice, and no chain leads out of the cells.
+pub(crate) fn owners(memory: &[u8; MEMORY]) -> Option<Owners>
+    ensures { Finds (byte_in memory.now) result }
+{
+    let mut owners = [None; CELLS];
+    for chain in 0..CHAINS {
+        if !follow(memory, chain, &mut owners) {
+            return None;
+        }
+    }
+    Some(owners)
+}
+
+// Follows a chain, and marks each of its cells. It is not followed further than to a cell that has an owner.
+fn follow(memory: &[u8; MEMORY], chain: usize, owners: &mut Owners) -> bool
+    requires { chain < 81 }
+    ensures { Follows (byte_in memory.now) owners.old owners.new chain result }
+{
+    let mut number = head(memory, chain);
+    while number != 0 {
+        if number > CELLS || owners[number - 1].is_some() {
+            return false;
+        }
+        owners[number - 1] = Some(chain);
+        number = next(memory, number);
+    }
+    true
+}
+
+// The number of a chain's first cell.
+fn head(memory: &[u8; MEMORY], chain: usize) -> usize
+    requires { chain < 81 }
+    ensures { result ≡ index_at (byte_in memory.now) (head_at chain) }
+{
+    index(memory, head_place(chain))
+}
+
+// Where the head of a chain stands.
+fn head_place(chain: usize) -> usize
+    requires { chain < 81 }
+    ensures is { result ≡ head_at chain }
+    ensures inside { result + 2 ≤ 1072 }
+{
+    if chain <= 64 {
+        16 * chain + 8
+    } else {
+        1040 + 2 * (chain - 65)
+    }
+}
+
+// The number of the cell after this one.
+fn next(memory: &[u8; MEMORY], number: usize) -> usize
+    requires { InCells number }
+    ensures { result ≡ index_at (byte_in memory.now) (cell_at number) }
+{
+    index(memory, 1048 + 24 * number)
+}
