@@ -3,6 +3,7 @@
 #![tactic(auto)]
 
 mod bytes;
+mod contents;
 mod money;
 mod owners;
 mod zeros;
