@@ -5,3 +5,5 @@ pub mod Sums
 pub mod Walks
 pub mod Marking
 pub mod Owning
+pub mod Reading
+pub mod Books

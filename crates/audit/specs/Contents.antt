@@ -1,5 +1,5 @@
 -- What lies in a cell, by the chain that it is on.
-use Rattle.std.specs.Prelude.{◌≡◌, ◌≢◌, ℕ, ◌+◌, ◌-◌, ◌<◌, ◌≤◌, ◌⊎◌, List, Some, None, Option}
+use Rattle.std.specs.Prelude.{◌≡◌, ℕ, ◌+◌, ◌-◌, ◌<◌, ◌≤◌, ◌⊎◌, List, Some, None, Option}
 use Rattle.book.specs.declared.records.Tag.{Tag}
 use Rattle.book.specs.declared.records.Entry.{Entry}
 use Rattle.book.specs.Records.{bucket_of, tag_kind, tag_content, TagFits, entry_kind, entry_content, EntryFits, blank_content}
@@ -58,12 +58,12 @@ pub record HasId (f : ℕ → ℕ) (n : ℕ) (id : List ℕ) : Type 0 where
   pub lies : HasTag f n item
   pub is : item.id ≡ id
 
--- None lies in a later cell; and so it is with each tag from cell n on, up to cell m.
+-- None lies in a cell after this one. So it is with the tag in a cell, if there is one, and with every tag.
 abbrev pub NotAfter : (ℕ → ℕ) → ℕ → List ℕ → Type 0
 NotAfter f n id = (m : ℕ) → n < m → m ≤ 200 → HasId f m id → ⊥
 
-abbrev pub OnceAt : (ℕ → ℕ) → ℕ → Type 0
-OnceAt f n = (t : Tag) → HasTag f n t → NotAfter f n t.id
+pub record OnceAt (f : ℕ → ℕ) (n : ℕ) : Type 0 where
+  pub none : (t : Tag) → HasTag f n t → NotAfter f n t.id
 
 abbrev pub Once : (ℕ → ℕ) → Type 0
 Once f = (n : ℕ) → InCells n → OnceAt f n

@@ -6,7 +6,7 @@ ghost use Rattle.book.specs.Book.{IsAccount};
 ghost use Rattle.audit.specs.Contents.{ReadFrom, GoodEntry, GoodTag, IsFree, Fits, FitsOwner, AllFit, HasId, NotAfter, OnceAt, Once};
 
 use crate::bytes::{is_blank, part};
-use crate::owners::{CELLS, Owners};
+use crate::owners::{CELLS, Owners, cell_place};
 use book::{CellRecord, Entry, Tag};
 use transactions::MEMORY;
 
@@ -53,7 +53,7 @@ fn is_free(memory: &[u8; MEMORY], number: usize) -> bool
     requires { InCells number }
     ensures { IsTrue result ↔ IsFree (byte_in memory.now) number }
 {
-    is_blank(memory, 1050 + 24 * number, 22)
+    is_blank(memory, cell_place(number) + 2, 22)
 }
 
 // Whether the cell has an entry that names an account.
@@ -83,7 +83,7 @@ fn read_from<R: CellRecord>(memory: &[u8; MEMORY], number: usize) -> Option<R>
     requires { InCells number }
     ensures { ReadFrom R.KIND R.content R.fits (byte_in memory.now) number result }
 {
-    let at = 1048 + 24 * number;
+    let at = cell_place(number);
     if memory[at + 2] != R::KIND || memory[at + 3] != 0 {
         return None;
     }

@@ -70,5 +70,13 @@ fn next(memory: &[u8; MEMORY], number: usize) -> usize
     requires { InCells number }
     ensures { result ≡ index_at (byte_in memory.now) (cell_at number) }
 {
-    index(memory, 1048 + 24 * number)
+    index(memory, cell_place(number))
+}
+
+// Where a cell stands.
+pub(crate) fn cell_place(number: usize) -> usize
+    requires { InCells number }
+    ensures { result ≡ cell_at number }
+{
+    1048 + 24 * number
 }
