@@ -7,3 +7,5 @@ pub mod Marking
 pub mod Owning
 pub mod Reading
 pub mod Books
+pub mod Gathering
+pub mod Knowing
