@@ -9,3 +9,4 @@ pub mod Reading
 pub mod Books
 pub mod Gathering
 pub mod Knowing
+pub mod Whole
