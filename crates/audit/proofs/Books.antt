@@ -6,9 +6,10 @@ use Rattle.book.specs.declared.records.Tag.{Tag}
 use Rattle.book.specs.declared.records.Entry.{Entry}
 use Rattle.book.specs.Layout.{Stands, Chain, cell_at, InCells}
 use Rattle.book.specs.Book.{At, at, GoodEntries, GoodTags, NoTag, free_cell, entry_cell, tag_cell}
+use Rattle.book.proofs.Chaining.{numbers}
 use Rattle.audit.specs.Owners.{index_at, Walk, Among}
 use Rattle.audit.specs.Contents.{IsFree, HasTag, GoodEntry, GoodTag, HasId, Once}
-use Rattle.audit.proofs.Walks.{stands_index, walk_in, walk_once, number_of}
+use Rattle.audit.proofs.Walks.{stands_index, walk_in, walk_once}
 
 -- The index that a walk begins with, in its two bytes.
 index_bytes : (f : ℕ → ℕ) (a n : ℕ) → ((i : ℕ) → f i < 256) → index_at f a ≡ n → Stands f a (digits 2 n)
@@ -20,7 +21,7 @@ free_chain f a [] small e free = index_bytes f a 0 small e
 free_chain f a (n ∷ ns) small (e, i, walk) free =
     (index_bytes f a n small e, i, free n (inl refl), free_chain f (cell_at n) ns small walk (λ m h. free m (inr h)))
 
-pub free_numbers : (ns : List ℕ) → map number_of (map free_cell ns) ≡ ns
+pub free_numbers : (ns : List ℕ) → numbers (map free_cell ns) ≡ ns
 free_numbers [] = refl
 free_numbers (n ∷ ns) = ap (λ (ms : List ℕ). n ∷ ms) (free_numbers ns)
 
@@ -29,7 +30,7 @@ pub record Entries (f : ℕ → ℕ) (a : ℕ) (ns : List ℕ) : Type 0 where
   pub items : List (At Entry)
   pub chain : Chain f a (map entry_cell items)
   pub good : GoodEntries items
-  pub numbers : map number_of (map entry_cell items) ≡ ns
+  pub numbers : numbers (map entry_cell items) ≡ ns
 
 pub entries_along : (f : ℕ → ℕ) (a : ℕ) (ns : List ℕ) → ((i : ℕ) → f i < 256) → Walk f (index_at f a) ns → ((n : ℕ) → Among n ns → GoodEntry f n) → Entries f a ns
 entries_along f a [] small e has = record { items = []; chain = index_bytes f a 0 small e; good = tt; numbers = refl }
@@ -49,7 +50,7 @@ pub record Tags (f : ℕ → ℕ) (k a : ℕ) (ns : List ℕ) : Type 0 where
   pub chain : Chain f a (map tag_cell items)
   pub good : GoodTags k items
   pub lie : (id : List ℕ) → ((m : ℕ) → Among m ns → HasId f m id → ⊥) → NoTag id items
-  pub numbers : map number_of (map tag_cell items) ≡ ns
+  pub numbers : numbers (map tag_cell items) ≡ ns
 
 -- two cells have no tag in common
 pub not_twice : (f : ℕ → ℕ) (n m : ℕ) (t : Tag) → Once f → InCells n → InCells m → n ≢ m → HasTag f n t → HasId f m t.id → ⊥

@@ -6,9 +6,10 @@ use Rattle.book.specs.declared.records.Entry.{Entry}
 use Rattle.book.specs.Layout.{Chain, Cell, head_at, Lies}
 use Rattle.book.specs.Book.{Book, At, Chains, Records, IsAccount, GoodEntries, GoodTags, free_cell, entry_cell, tag_cell, cells_of}
 use Rattle.book.proofs.Threads.{chain_cases, cells_account, cells_bucket}
+use Rattle.book.proofs.Chaining.{numbers}
 use Rattle.audit.specs.Owners.{index_at, Among, owner, Listed, Met, Owned}
 use Rattle.audit.specs.Contents.{IsFree, GoodEntry, GoodTag, Fits, FitsOwner, AllFit, Once}
-use Rattle.audit.proofs.Walks.{walk_same, walk_in, number_of, chain_walks, lies_among, among_lies}
+use Rattle.audit.proofs.Walks.{walk_same, walk_in, chain_walks, lies_among, among_lies}
 use Rattle.audit.proofs.Marking.{cases_option}
 use Rattle.audit.proofs.Books.{free_chain, free_numbers, entries_along, tags_along}
 
@@ -22,14 +23,14 @@ pub record Found (f : ℕ → ℕ) (owners : List (Option ℕ)) : Type 0 where
 -- These cells are those of chain c.
 pub record OnChain (f : ℕ → ℕ) (owners : List (Option ℕ)) (c : ℕ) (cells : List Cell) : Type 0 where
   pub chain : Chain f (head_at c) cells
-  pub here : (n : ℕ) → Among n (map number_of cells) → owner owners n ≡ Some c
+  pub here : (n : ℕ) → Among n (numbers cells) → owner owners n ≡ Some c
 
 -- Each cell of a chain fits it.
 fits_on : (f : ℕ → ℕ) (owners : List (Option ℕ)) (c : ℕ) → AllFit f owners → (l : Listed f owners c) → (n : ℕ) → Among n l.cells → Fits f n c
 fits_on f owners c fit l n among = subst (λ (o : Option ℕ). FitsOwner f n o) (l.here n among) (fit n (walk_in f (index_at f (head_at c)) n l.cells l.walk among))
 
 -- the cells of a list are on its chain
-on_chain : (f : ℕ → ℕ) (owners : List (Option ℕ)) (c : ℕ) (cells : List Cell) (l : Listed f owners c) → Chain f (head_at c) cells → map number_of cells ≡ l.cells → OnChain f owners c cells
+on_chain : (f : ℕ → ℕ) (owners : List (Option ℕ)) (c : ℕ) (cells : List Cell) (l : Listed f owners c) → Chain f (head_at c) cells → numbers cells ≡ l.cells → OnChain f owners c cells
 on_chain f owners c cells l chain e = record { chain = chain; here = λ n among. l.here n (subst (λ (ns : List ℕ). Among n ns) e among) }
 
 -- The free cells,
@@ -133,7 +134,7 @@ lies_on : (f : ℕ → ℕ) (owners : List (Option ℕ)) (n c : ℕ) (cells : Li
 lies_on f owners n c cells on met =
     among_lies n cells
     (subst (λ (ns : List ℕ). Among n ns)
-    (walk_same f (index_at f (head_at c)) met.cells (map number_of cells) met.walk (chain_walks f (head_at c) cells on.chain))
+    (walk_same f (index_at f (head_at c)) met.cells (numbers cells) met.walk (chain_walks f (head_at c) cells on.chain))
     met.among)
 
 pub gathered_chains : (f : ℕ → ℕ) (owners : List (Option ℕ)) (h : Found f owners) → Chains f (gathered f owners h)

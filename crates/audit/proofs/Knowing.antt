@@ -6,9 +6,10 @@ use Rattle.book.specs.Records.{bucket_of, tag_kind, tag_content, entry_kind, ent
 use Rattle.book.specs.Layout.{Chain, cell_at, head_at, InCells, Lies}
 use Rattle.book.specs.Book.{Book, At, Chains, Records, GoodEntries, GoodTags, NoTag, free_cell, entry_cell, tag_cell, cells_of}
 use Rattle.book.proofs.Threads.{IsBucket, chain_cases, cells_account, cells_bucket}
+use Rattle.book.proofs.Chaining.{numbers}
 use Rattle.audit.specs.Owners.{index_at, Among, owner, Owned}
 use Rattle.audit.specs.Contents.{IsFree, HasTag, GoodEntry, GoodTag, HasId, Fits, FitsOwner, AllFit, Once}
-use Rattle.audit.proofs.Walks.{walk_same, number_of, chain_walks, lies_among}
+use Rattle.audit.proofs.Walks.{walk_same, chain_walks, lies_among}
 use Rattle.audit.proofs.Reading.{kind_of, tag_one}
 
 -- The cells of each kind of chain.
@@ -99,8 +100,8 @@ fits_chain f b n c chains records below lies =
 owned_by : (f : ℕ → ℕ) (owners : List (Option ℕ)) (b : Book) (n c : ℕ) → Owned f owners 81 → Chains f b → c < 81 → Lies n (cells_of b c) → owner owners n ≡ Some c
 owned_by f owners b n c owned chains below lies =
     let l = owned.listed c below in
-    let same : map number_of (cells_of b c) ≡ l.cells =
-    walk_same f (index_at f (head_at c)) (map number_of (cells_of b c)) l.cells (chain_walks f (head_at c) (cells_of b c) (chains.chain c below)) l.walk in
+    let same : numbers (cells_of b c) ≡ l.cells =
+    walk_same f (index_at f (head_at c)) (numbers (cells_of b c)) l.cells (chain_walks f (head_at c) (cells_of b c) (chains.chain c below)) l.walk in
     l.here n (subst (λ (ns : List ℕ). Among n ns) same (lies_among n (cells_of b c) lies))
 
 pub book_fits : (f : ℕ → ℕ) (owners : List (Option ℕ)) (b : Book) → Owned f owners 81 → Chains f b → Records b → AllFit f owners

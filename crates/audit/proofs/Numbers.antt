@@ -18,12 +18,6 @@ digits_value (suc n) (b ∷ bs) long small =
     let high : (b + 256 * value bs) / 256 ≡ value bs = omega arith in
     rw (low, high, rest) refl
 
--- how many there are
-pub digits_long : (n x : ℕ) → length (digits n x) ≡ n
-unfolding digits
-digits_long zero x = refl
-digits_long (suc n) x = omega (arith, digits_long n (x / 256))
-
 -- the digits of a number that was read
 pub digits_read : (k n : ℕ) (bs : List ℕ) → length bs ≡ suc k → ((i : ℕ) → i < suc k → get_or bs i 0 < 256) → n ≡ sum_through (λ i. byte_worth i (get_or bs i 0)) k → digits (suc k) n ≡ bs
 digits_read k n bs long small is =

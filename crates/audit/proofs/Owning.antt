@@ -1,10 +1,11 @@
 -- Chain after chain, each cell has its one owner.
-use Rattle.std.proofs.Common.{◌≡◌, ℕ, ◌+◌, ◌<◌, ◌≤◌, List, map, Some, None, Option, sym, ◌∙◌, subst, ⊎_elim, arith}
+use Rattle.std.proofs.Common.{◌≡◌, ℕ, ◌+◌, ◌<◌, ◌≤◌, List, Some, None, Option, sym, ◌∙◌, subst, ⊎_elim, arith}
 use Rattle.std.proofs.lemmas.Bool.{cases_lt}
 use Rattle.book.specs.Layout.{head_at}
 use Rattle.book.specs.Book.{Book, Chains, cells_of}
+use Rattle.book.proofs.Chaining.{numbers}
 use Rattle.audit.specs.Owners.{index_at, Walk, Among, owner, Fresh, Followed, Listed, Met, Owned}
-use Rattle.audit.proofs.Walks.{walk_same, walk_in, number_of, chain_walks, among_lies}
+use Rattle.audit.proofs.Walks.{walk_same, walk_in, chain_walks, among_lies}
 use Rattle.audit.proofs.Marking.{cases_option}
 
 -- Before the first chain no cell has an owner.
@@ -52,10 +53,10 @@ one_owned f before after k owned w =
     }
 
 -- A cell that was met on a chain lies on that chain of any book.
-pub met_lies : (f : ℕ → ℕ) (b : Book) (n c : ℕ) → Chains f b → c < 81 → Met f n c → Among n (map number_of (cells_of b c))
+pub met_lies : (f : ℕ → ℕ) (b : Book) (n c : ℕ) → Chains f b → c < 81 → Met f n c → Among n (numbers (cells_of b c))
 met_lies f b n c chains h met =
     subst (λ (ns : List ℕ). Among n ns)
-    (walk_same f (index_at f (head_at c)) met.cells (map number_of (cells_of b c)) met.walk (chain_walks f (head_at c) (cells_of b c) (chains.chain c h)))
+    (walk_same f (index_at f (head_at c)) met.cells (numbers (cells_of b c)) met.walk (chain_walks f (head_at c) (cells_of b c) (chains.chain c h)))
     met.among
 
 -- So where a chain cannot be followed there is no book.
@@ -63,7 +64,7 @@ pub no_book : (f : ℕ → ℕ) (owners : List (Option ℕ)) (k : ℕ) → Owned
     → ((ns : List ℕ) → Walk f (index_at f (head_at k)) ns → Fresh owners ns → ⊥)
     → (b : Book) → Chains f b → ⊥
 no_book f owners k owned h none b chains =
-    let ns = map number_of (cells_of b k) in
+    let ns = numbers (cells_of b k) in
     let walk = chain_walks f (head_at k) (cells_of b k) (chains.chain k h) in
     none ns walk
     (λ n among.

@@ -3,7 +3,8 @@ use Rattle.std.proofs.Common.{◌≡◌, ℕ, ◌^◌, ◌<◌, List, length, sy
 use Rattle.std.proofs.lemmas.List.{ext_get_or}
 use Rattle.record.specs.Fields.{digits}
 use Rattle.book.specs.Layout.{Stands}
-use Rattle.audit.proofs.Numbers.{digits_long, digits_same}
+use Rattle.book.proofs.Standing.{digits_length}
+use Rattle.audit.proofs.Numbers.{digits_same}
 
 pub stands_same : (f : ℕ → ℕ) (a : ℕ) (bs cs : List ℕ) → length bs ≡ length cs → Stands f a bs → Stands f a cs → bs ≡ cs
 stands_same f a bs cs long hb hc =
@@ -11,4 +12,4 @@ stands_same f a bs cs long hb hc =
 
 pub number_same : (n : ℕ) (f : ℕ → ℕ) (a x y : ℕ) → x < 256 ^ n → y < 256 ^ n → Stands f a (digits n x) → Stands f a (digits n y) → x ≡ y
 number_same n f a x y hx hy sx sy =
-    digits_same n x y hx hy (stands_same f a (digits n x) (digits n y) (digits_long n x ∙ sym (digits_long n y)) sx sy)
+    digits_same n x y hx hy (stands_same f a (digits n x) (digits n y) (digits_length n x ∙ sym (digits_length n y)) sx sy)

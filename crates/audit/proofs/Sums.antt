@@ -2,12 +2,13 @@
 use Rattle.std.proofs.Common.{◌≡◌, ℕ, zero, suc, ◌+◌, ◌-◌, ◌^◌, ◌<◌, ◌≤◌, ◌≢◌, true, false, List, [], length, get_or, take, sum, Some, None, Option, MatchOption, refl, sym, ap, ◌∙◌, subst, eqb, arith, ⊎_elim}
 use Rattle.std.proofs.lemmas.List.{take_all}
 use Rattle.std.proofs.lemmas.List.Sums.{sum_by_more}
-use Rattle.std.proofs.lemmas.Bool.{cases_lt, cases_Bool}
+use Rattle.std.proofs.lemmas.Bool.{cases_Bool}
 use Rattle.std.proofs.lemmas.Bool.Decides.{nat_tests}
 use Rattle.std.specs.Option.{option_eq}
 use Rattle.record.specs.Fields.{digits}
 use Rattle.book.specs.Layout.{balance_at, Stands}
 use Rattle.book.specs.Book.{Book, Money, sum_to}
+use Rattle.book.proofs.Sums.{sum_least}
 use Rattle.audit.specs.Judging.{MoneyJudged}
 use Rattle.audit.proofs.Standing.{number_same}
 
@@ -23,16 +24,6 @@ sum_listed (suc n) xs g long same =
     let so : sum (take n xs) ≡ sum_to n g = sum_listed n xs g (omega arith) (λ i h. same i (omega arith)) in
     let here : get_or xs n 0 ≡ g (suc n) = same n (omega arith) in
     omega arith
-
--- each is within their sum
-pub within_sum : (n : ℕ) (g : ℕ → ℕ) (i : ℕ) → i < n → g (suc i) ≤ sum_to n g
-unfolding sum_to
-within_sum zero g i h = absurd (omega arith)
-within_sum (suc n) g i h =
-    ⊎_elim
-    (λ (less : i < n). omega (arith, within_sum n g i less))
-    (λ (last : n ≤ i). let e : i ≡ n = omega arith in rw e (omega arith))
-    (cases_lt i n)
 
 -- the balances that stand in the memory
 abbrev pub Balances : (ℕ → ℕ) → List ℕ → Type 0
@@ -61,7 +52,7 @@ sum_of_book f b xs m long small balances =
     ∙ sum_listed 64 xs b.balances (omega arith)
     (λ i h.
     let e : i + 1 ≡ suc i = omega arith in
-    let bound : b.balances (suc i) < 2 ^ 64 = omega (arith, within_sum 64 b.balances i h, m.sum, m.bound) in
+    let bound : b.balances (suc i) < 2 ^ 64 = omega (arith, sum_least 64 (suc i) b.balances (omega arith) (omega arith), m.sum, m.bound) in
     number_same 8 f (balance_at (suc i)) (get_or xs i 0) (b.balances (suc i)) (small i) bound
     (subst (λ (k : ℕ). Stands f (balance_at k) (digits 8 (get_or xs i 0))) e (balances i h))
     (m.balance (suc i) (omega arith, omega arith)))

@@ -1,7 +1,8 @@
 -- Walks along chains.
-use Rattle.std.proofs.Common.{◌≡◌, ℕ, zero, suc, ◌+◌, ◌/◌, ◌%◌, ◌^◌, ◌<◌, List, [], ◌∷◌, length, map, refl, sym, ap, ◌∙◌, subst, inl, inr, ⊎_elim, arith}
+use Rattle.std.proofs.Common.{◌≡◌, ℕ, zero, suc, ◌+◌, ◌/◌, ◌%◌, ◌^◌, ◌<◌, List, [], ◌∷◌, length, refl, sym, ap, ◌∙◌, subst, inl, inr, ⊎_elim, arith}
 use Rattle.record.specs.Fields.{digits}
 use Rattle.book.specs.Layout.{Stands, cell_at, InCells, Cell, Chain, held, Lies}
+use Rattle.book.proofs.Chaining.{numbers}
 use Rattle.audit.specs.Owners.{index_at, Walk, Among}
 
 -- An index by its two bytes,
@@ -67,18 +68,15 @@ walk_in f m n (x ∷ xs) (e, i, h) among =
     ⊎_elim (λ (here : x ≡ n). subst InCells here i) (λ there. walk_in f (index_at f (cell_at x)) n xs h there) among
 
 -- The numbers of the cells of a chain are a walk.
-abbrev pub number_of : Cell → ℕ
-number_of c = c.number
-
-pub chain_walks : (f : ℕ → ℕ) (a : ℕ) (cs : List Cell) → Chain f a cs → Walk f (index_at f a) (map number_of cs)
+pub chain_walks : (f : ℕ → ℕ) (a : ℕ) (cs : List Cell) → Chain f a cs → Walk f (index_at f a) (numbers cs)
 chain_walks f a [] h = index_stands f a 0 (omega arith) h
 chain_walks f a (c ∷ cs) (stands, i, held, h) =
     (index_stands f a c.number (omega arith) stands, i, chain_walks f (cell_at c.number) cs h)
 
-pub lies_among : (n : ℕ) (cs : List Cell) → Lies n cs → Among n (map number_of cs)
+pub lies_among : (n : ℕ) (cs : List Cell) → Lies n cs → Among n (numbers cs)
 lies_among n [] h = h
 lies_among n (c ∷ cs) h = ⊎_elim (λ here. inl here) (λ there. inr (lies_among n cs there)) h
 
-pub among_lies : (n : ℕ) (cs : List Cell) → Among n (map number_of cs) → Lies n cs
+pub among_lies : (n : ℕ) (cs : List Cell) → Among n (numbers cs) → Lies n cs
 among_lies n [] h = h
 among_lies n (c ∷ cs) h = ⊎_elim (λ here. inl here) (λ there. inr (among_lies n cs there)) h

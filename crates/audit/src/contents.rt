@@ -6,12 +6,10 @@ ghost use Rattle.book.specs.Book.{IsAccount};
 ghost use Rattle.audit.specs.Contents.{ReadFrom, GoodEntry, GoodTag, IsFree, Fits, FitsOwner, AllFit, HasId, NotAfter, OnceAt, Once};
 
 use crate::bytes::{is_blank, part};
-use crate::owners::{CELLS, Owners, cell_place};
+use crate::layout::{BUCKETS, CELLS, cell_place};
+use crate::owners::Owners;
 use book::{CellRecord, Entry, Tag};
 use transactions::MEMORY;
-
-// The number of buckets.
-const BUCKETS: usize = 16;
 
 // Whether each cell lies on a chain, and has what that chain may have.
 pub(crate) fn all_fit(memory: &[u8; MEMORY], owners: &Owners) -> bool
@@ -94,7 +92,7 @@ fn read_from<R: CellRecord>(memory: &[u8; MEMORY], number: usize) -> Option<R>
 fn is_account(number: u16) -> bool
     ensures { IsTrue result ↔ IsAccount number }
 {
-    1 <= number && number <= 64
+    (1..=64).contains(&number)
 }
 
 // The bucket that a tag belongs to.
@@ -112,7 +110,7 @@ fn bucket_number(id: &[u8; 8]) -> usize
 pub(crate) fn tags_are_once(memory: &[u8; MEMORY]) -> bool
     ensures { IsTrue result ↔ Once (byte_in memory.now) }
 {
-    for number in 1..CELLS + 1 {
+    for number in 1..=CELLS {
         if !is_once(memory, number) {
             return false;
         }
@@ -136,7 +134,7 @@ fn is_not_after(memory: &[u8; MEMORY], number: usize, id: &[u8; 8]) -> bool
     requires { InCells number }
     ensures { IsTrue result ↔ NotAfter (byte_in memory.now) number id.now }
 {
-    for other in number + 1..CELLS + 1 {
+    for other in number + 1..=CELLS {
         if has_id(memory, other, id) {
             return false;
         }

@@ -7,6 +7,7 @@ ghost use Rattle.audit.specs.Judging.{Judged, CellsJudged};
 
 mod bytes;
 mod contents;
+mod layout;
 mod money;
 mod owners;
 mod zeros;

@@ -5,10 +5,8 @@ ghost use Rattle.book.specs.Layout.{byte_in, balance_at, Stands};
 ghost use Rattle.audit.specs.Judging.{MoneyJudged};
 
 use crate::bytes::long;
+use crate::layout::{ACCOUNTS, balance_place};
 use transactions::MEMORY;
-
-// The number of accounts.
-const ACCOUNTS: usize = 64;
 
 // No more than this is ever issued.
 const MOST: u64 = 0x7FFF_FFFF_FFFF_FFFF;
@@ -26,7 +24,7 @@ fn balances(memory: &[u8; MEMORY]) -> [u64; ACCOUNTS]
 {
     let mut balances = [0; ACCOUNTS];
     for (i, balance) in balances.iter_mut().enumerate() {
-        *balance = long(memory, 16 * (i + 1));
+        *balance = long(memory, balance_place(i + 1));
     }
     balances
 }

@@ -1,16 +1,11 @@
 // Which chain each cell lies on.
-ghost use Rattle.std.specs.Prelude.{◌≡◌, ◌+◌, ◌<◌, ◌≤◌};
+ghost use Rattle.std.specs.Prelude.{◌≡◌, ◌<◌};
 ghost use Rattle.book.specs.Layout.{byte_in, head_at, cell_at, InCells};
 ghost use Rattle.audit.specs.Owners.{index_at, Follows, Finds};
 
 use crate::bytes::index;
+use crate::layout::{CELLS, CHAINS, cell_place, head_place};
 use transactions::MEMORY;
-
-// The number of cells.
-pub(crate) const CELLS: usize = 200;
-
-// The chains: the free one, one for each account, one for each bucket.
-const CHAINS: usize = 81;
 
 // The number of the chain that each cell was met on.
 pub(crate) type Owners = [Option<usize>; CELLS];
@@ -52,31 +47,10 @@ fn head(memory: &[u8; MEMORY], chain: usize) -> usize
     index(memory, head_place(chain))
 }
 
-// Where the head of a chain stands.
-fn head_place(chain: usize) -> usize
-    requires { chain < 81 }
-    ensures is { result ≡ head_at chain }
-    ensures inside { result + 2 ≤ 1072 }
-{
-    if chain <= 64 {
-        16 * chain + 8
-    } else {
-        1040 + 2 * (chain - 65)
-    }
-}
-
 // The number of the cell after this one.
 fn next(memory: &[u8; MEMORY], number: usize) -> usize
     requires { InCells number }
     ensures { result ≡ index_at (byte_in memory.now) (cell_at number) }
 {
     index(memory, cell_place(number))
-}
-
-// Where a cell stands.
-pub(crate) fn cell_place(number: usize) -> usize
-    requires { InCells number }
-    ensures { result ≡ cell_at number }
-{
-    1048 + 24 * number
 }

@@ -4,6 +4,7 @@ ghost use Rattle.book.specs.Layout.{byte_in, balance_at, Stands};
 ghost use Rattle.book.specs.Book.{Zeros, IsAccount};
 
 use crate::bytes::is_blank;
+use crate::layout::{ACCOUNTS, balance_place};
 use transactions::MEMORY;
 
 // Whether they are zeros.
@@ -17,8 +18,8 @@ pub(crate) fn zeros_stand(memory: &[u8; MEMORY]) -> bool
 fn accounts_end(memory: &[u8; MEMORY]) -> bool
     ensures { IsTrue result ↔ ((a : ℕ) → IsAccount a → Stands (byte_in memory.now) (balance_at a + 10) (replicate 6 0)) }
 {
-    for account in 1..65usize {
-        if !is_blank(memory, 16 * account + 10, 6) {
+    for account in 1..=ACCOUNTS {
+        if !is_blank(memory, balance_place(account) + 10, 6) {
             return false;
         }
     }
