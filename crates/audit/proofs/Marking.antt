@@ -1,7 +1,6 @@
 -- Marking cells as a chain is followed.
-use Rattle.std.proofs.Common.{◌≡◌, ℕ, ◌-◌, ◌<◌, ◌≢◌, ◌⊎◌, List, [], ◌∷◌, length, set, Some, None, Option, Bool, true, false, cond, refl, sym, ap, ◌∙◌, subst, inl, inr, ⊎_elim, arith, get_or-set_other, get_or-set_same}
+use Rattle.std.proofs.Common.{◌≡◌, ℕ, ◌-◌, ◌<◌, ◌≤◌, ◌≢◌, ◌⊎◌, List, [], ◌∷◌, length, set, Some, None, Option, Bool, true, false, cond, refl, sym, ap, ◌∙◌, subst, inl, inr, ⊎_elim, arith, get_or-set_other, get_or-set_same}
 use Rattle.std.specs.List.{count_by}
-use Rattle.std.specs.Option.{is_some}
 use Rattle.std.proofs.lemmas.Bool.{cases_eq}
 use Rattle.std.proofs.lemmas.List.Sums.{sum_by-set}
 use Rattle.book.specs.Layout.{cell_at, InCells}
@@ -75,13 +74,9 @@ none_on f before c n i none (m ∷ ms) (e, j, h) fresh =
     set_other before n k c i (walk_in f (index_at f (cell_at n)) k ms on among) other ∙ fresh k (inr among))
 
 -- There is none into a cell that is none, or that was met.
-pub none_out : (f : ℕ → ℕ) (before : List (Option ℕ)) (n : ℕ) → 200 < n → (ns : List ℕ) → Walk f n ns → Fresh before ns → ⊥
-none_out f before n out [] e fresh = omega arith
-none_out f before n out (m ∷ ms) (e, j, h) fresh = omega (arith, j.1)
-
-pub none_met : (f : ℕ → ℕ) (before : List (Option ℕ)) (n : ℕ) → n ≢ 0 → (owner before n ≡ None → ⊥) → (ns : List ℕ) → Walk f n ns → Fresh before ns → ⊥
-none_met f before n some met [] e fresh = some e
-none_met f before n some met (m ∷ ms) (e, j, h) fresh = met (subst (λ (k : ℕ). owner before k ≡ None) (sym e) (fresh m (inl refl)))
+pub none_new : (f : ℕ → ℕ) (before : List (Option ℕ)) (n : ℕ) → n ≢ 0 → ((n ≤ 200) × (owner before n ≡ None) → ⊥) → (ns : List ℕ) → Walk f n ns → Fresh before ns → ⊥
+none_new f before n some old [] e fresh = some e
+none_new f before n some old (m ∷ ms) (e, j, h) fresh = old (omega (arith, e, j.1), subst (λ (k : ℕ). owner before k ≡ None) (sym e) (fresh m (inl refl)))
 
 -- How many have not been met yet.
 abbrev pub is_unmet : Option ℕ → Bool
@@ -97,14 +92,6 @@ fewer_unmet owners n c long i none =
     omega (arith, e, here)
 
 -- An option is one or the other.
-pub some_not_none : (x : Option ℕ) → is_some x ≡ true → x ≡ None → ⊥
-some_not_none None h e = cc
-some_not_none (Some c) h e = cc
-
-pub none_of_test : (x : Option ℕ) → is_some x ≡ false → x ≡ None
-none_of_test None h = refl
-none_of_test (Some c) h = cc
-
 pub cases_option : (x : Option ℕ) → (x ≡ None) ⊎ ((c : ℕ) × (x ≡ Some c))
 cases_option None = inl refl
 cases_option (Some c) = inr (c, refl)

@@ -71,9 +71,16 @@ fn has_tag(memory: &[u8; MEMORY], number: usize, bucket: usize) -> bool
     ensures { IsTrue result ↔ GoodTag (byte_in memory.now) number bucket }
 {
     match read_from::<Tag>(memory, number) {
-        Some(tag) => is_account(tag.account) && bucket_number(&tag.id) == bucket,
+        Some(tag) => belongs(&tag, bucket),
         None => false,
     }
+}
+
+// Whether the tag names an account, and belongs to this bucket.
+fn belongs(tag: &Tag, bucket: usize) -> bool
+    ensures { IsTrue result ↔ (IsAccount tag.now.account × (bucket_of tag.now.id ≡ bucket)) }
+{
+    is_account(tag.account) && bucket_number(&tag.id) == bucket
 }
 
 // The record of this kind in the cell, if one lies there.
@@ -82,10 +89,18 @@ fn read_from<R: CellRecord>(memory: &[u8; MEMORY], number: usize) -> Option<R>
     ensures { ReadFrom R.KIND R.content R.fits (byte_in memory.now) number result }
 {
     let at = cell_place(number);
-    if memory[at + 2] != R::KIND || memory[at + 3] != 0 {
+    if !is_kind(memory, at, R::KIND) {
         return None;
     }
     R::from_content(&part(memory, at + 4))
+}
+
+// Whether the cell that stands here is of this kind, with a zero after it.
+fn is_kind(memory: &[u8; MEMORY], at: usize, kind: u8) -> bool
+    requires { at + 24 ≤ MEMORY }
+    ensures { IsTrue result ↔ ((byte_in memory.now (at + 2) ≡ kind) × (byte_in memory.now (at + 3) ≡ 0)) }
+{
+    memory[at + 2] == kind && memory[at + 3] == 0
 }
 
 // Whether there is an account of this number.

@@ -1,7 +1,7 @@
 // Which chain each cell lies on.
-ghost use Rattle.std.specs.Prelude.{◌≡◌, ◌<◌};
+ghost use Rattle.std.specs.Prelude.{◌≡◌, ◌-◌, ◌<◌, ◌≤◌, ◌↔◌, IsTrue, slice_set};
 ghost use Rattle.book.specs.Layout.{byte_in, head_at, cell_at, InCells};
-ghost use Rattle.audit.specs.Owners.{index_at, Follows, Finds};
+ghost use Rattle.audit.specs.Owners.{index_at, owner, Follows, Finds};
 
 use crate::bytes::index;
 use crate::layout::{CELLS, CHAINS, cell_place, head_place};
@@ -30,13 +30,29 @@ fn follow(memory: &[u8; MEMORY], chain: usize, owners: &mut Owners) -> bool
 {
     let mut number = head(memory, chain);
     while number != 0 {
-        if number > CELLS || owners[number - 1].is_some() {
+        if !is_new(owners, number) {
             return false;
         }
-        owners[number - 1] = Some(chain);
+        give(owners, number, chain);
         number = next(memory, number);
     }
     true
+}
+
+// Whether there is a cell of this number, which has no owner yet.
+fn is_new(owners: &Owners, number: usize) -> bool
+    requires { 1 ≤ number }
+    ensures { IsTrue result ↔ ((number ≤ 200) × (owner owners.now number ≡ None)) }
+{
+    number <= CELLS && owners[number - 1].is_none()
+}
+
+// Gives the cell its owner.
+fn give(owners: &mut Owners, number: usize, chain: usize)
+    requires { InCells number }
+    ensures { owners.new ≡ slice_set owners.old (number - 1) (Some chain) }
+{
+    owners[number - 1] = Some(chain);
 }
 
 // The number of a chain's first cell.
