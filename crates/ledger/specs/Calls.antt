@@ -16,7 +16,7 @@ use Rattle.book.specs.Layout.{byte_in}
 use Rattle.book.specs.Book.{Book, Holds, new_book}
 use Rattle.book.specs.Rows.{Row, first_fit, issue_rows, move_rows, visit_rows, enrol_rows, drop_rows, collect_rows, balance_rows, account_of}
 use Rattle.book.specs.Edits.{Edit, issue_edits, issued_to, move_edits, moved, visit_edits, visited, enrol_edits, enrolled, drop_edits, dropped, collect_edits, collected, front_of, make_edits}
-use Rattle.ledger.specs.Changes.{Changes}
+use Rattle.changes.specs.Changes.{Changes}
 
 -- What the memory of a store holds.
 abbrev pub HoldsBook : State → Book → Type 0

@@ -1,3 +1,2 @@
 -- What the calls of a ledger do to the store below.
-pub mod Changes
 pub mod Calls
