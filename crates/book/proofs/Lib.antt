@@ -1,2 +1,12 @@
 -- Lemmas on the book.
 pub mod Examples
+pub mod Contents
+pub mod Standing
+pub mod Places
+pub mod Chaining
+pub mod Threads
+pub mod Keeping
+pub mod Putting
+pub mod Sums
+pub mod Passing
+pub mod Beside

@@ -1,0 +1,3 @@
+-- Lemmas on plans.
+pub mod Standing
+pub mod Planning

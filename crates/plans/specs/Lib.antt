@@ -1,0 +1,2 @@
+-- What a look at the memory of a ledger plans.
+pub mod Plans

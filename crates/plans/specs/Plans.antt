@@ -1,0 +1,33 @@
+-- What a plan puts into the memory, and what the plan of a change is.
+use Rattle.std.specs.Prelude.{◌≡◌, ℕ, ◌^◌, ◌≤◌, Bool, true, false, List, map, Some, None, Ok, Err, Result}
+use Rattle.book.specs.declared.fault.LedgerFault.{LedgerFault}
+use Rattle.book.specs.Rows.{Row, first_fit}
+use Rattle.book.specs.Edits.{Edit, edit}
+use Rattle.plans.specs.declared.plan.Patch.{Patch}
+use Rattle.plans.specs.declared.plan.Plan.{Plan}
+
+abbrev pub edit_of : Patch → Edit
+edit_of p = edit p.start p.bytes.items
+
+abbrev pub edits_of : Plan → List Edit
+edits_of p = map edit_of p.patches.items
+
+-- A test is passed, or refuses.
+abbrev pub Passes : {A : Type 0} → Row → Result A LedgerFault → Type 0
+Passes row (Ok _) = row.0 ≡ false
+Passes row (Err f) = (row.0 ≡ true) × (f ≡ row.1)
+
+-- The first row that fits refuses; where none does, the plan is these edits.
+abbrev pub Planned : List Row → List Edit → Result Plan LedgerFault → Type 0
+Planned rows edits (Ok plan) = (first_fit rows ≡ None) × (edits_of plan ≡ edits)
+Planned rows edits (Err f) = first_fit rows ≡ Some f
+
+-- And where the answer is a number, it is this.
+abbrev pub Told : List Row → ℕ → Result ℕ LedgerFault → Type 0
+Told rows n (Ok x) = (first_fit rows ≡ None) × (x ≡ n)
+Told rows n (Err f) = first_fit rows ≡ Some f
+
+-- A balance becomes this, or does not fit its field.
+abbrev pub Grown : ℕ → Result ℕ LedgerFault → Type 0
+Grown n (Ok x) = x ≡ n
+Grown n (Err f) = 2 ^ 64 ≤ n
