@@ -4,9 +4,9 @@ use Rattle.std.proofs.Math.Nat.{mod-eq_of_lt}
 use Rattle.std.proofs.lemmas.Bool.{ne_eqb}
 use Rattle.std.proofs.lemmas.List.{set_at, replicate-append-replicate}
 use Rattle.record.specs.Fields.{digits}
-use Rattle.book.specs.Layout.{whole}
+use Rattle.book.specs.Layout.{head_at, whole}
 use Rattle.book.specs.Book.{free_cell}
-use Rattle.book.specs.Edits.{free_chain}
+use Rattle.book.specs.Edits.{edit, free_chain}
 
 small_div : (x : ℕ) → x < 256 → x / 256 ≡ 0
 small_div x h = omega arith
@@ -51,14 +51,14 @@ linking_goes i v k bytes h e f l =
       front = l.front ++ cell;
       long = simp length-append (omega (arith, l.long));
       here =
-        ap (λ (ys : List ℕ). set ys k v) (l.here ∙ ap (λ (zs : List ℕ). l.front ++ zs) (zeros_split (4800 - 24 * (i + 1)) (4800 - 24 * i) (omega arith)))
-        ∙ set_at l.front 0 tail v k (l.long ∙ sym f)
-        ∙ ap (λ (w : ℕ). l.front ++ w ∷ tail) e
-        ∙ sym (joins l.front cell zeros);
+          ap (λ (ys : List ℕ). set ys k v) (l.here ∙ ap (λ (zs : List ℕ). l.front ++ zs) (zeros_split (4800 - 24 * (i + 1)) (4800 - 24 * i) (omega arith)))
+          ∙ set_at l.front 0 tail v k (l.long ∙ sym f)
+          ∙ ap (λ (w : ℕ). l.front ++ w ∷ tail) e
+          ∙ sym (joins l.front cell zeros);
       rest =
-        joins l.front cell (free_chain (i + 1 + 1) (200 - (i + 1)))
-        ∙ ap (λ (zs : List ℕ). l.front ++ zs) (sym (chain_next i (200 - i) (200 - (i + 1)) (i + 1 + 1) h (omega arith) (omega arith)))
-        ∙ l.rest;
+          joins l.front cell (free_chain (i + 1 + 1) (200 - (i + 1)))
+          ∙ ap (λ (zs : List ℕ). l.front ++ zs) (sym (chain_next i (200 - i) (200 - (i + 1)) (i + 1 + 1) h (omega arith) (omega arith)))
+          ∙ l.rest;
     }
   where
     joins : (a b c : List ℕ) → (a ++ b) ++ c ≡ a ++ (b ++ c)
@@ -68,3 +68,8 @@ pub linking_ends : (i : ℕ) (bytes : List ℕ) → i ≡ 199 → Linking i byte
 linking_ends i bytes e l =
     let m = subst (λ (k : ℕ). Linking k bytes) e l in
     m.here ∙ ap (λ (zs : List ℕ). m.front ++ zs) (sym last_cell) ∙ m.rest
+
+-- the head of the free chain as bytes
+pub head_edit : edit 8 (1 ∷ 0 ∷ []) ≡ edit (head_at 0) (digits 2 1)
+unfolding digits
+head_edit = refl

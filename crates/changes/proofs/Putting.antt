@@ -102,7 +102,7 @@ pub put_done : (s m p : State) (number start : ℕ) (bytes : List ℕ) (a : Unit
 put_done s m p number start bytes a r u few some inside set write =
     let x = (set_passes s m number start (length bytes) (Ok a) u few some inside set).1 in
     let all : (i : ℕ) → start ≤ i → i < start + length bytes → Declared (declared m.image) i =
-        λ i low high. subst (λ (rs : List Run). Declared rs i) (sym x.more.runs) (joined_covers start (start + length bytes) (declared s.image) i (inl (low, high))) in
+    λ i low high. subst (λ (rs : List Run). Declared rs i) (sym x.more.runs) (joined_covers start (start + length bytes) (declared s.image) i (inl (low, high))) in
     let y = write_passes m p number start bytes r (still_underway s m number u x.made) all some inside write in
     (y.0, both s m p start bytes x y.1)
   where
@@ -160,8 +160,8 @@ putting_takes s m p number all left rest x y r short next same w puts u few =
         record {
           underway = record { on = q.on ∙ far.underway.on; busy = q.busy ∙ far.underway.busy; fits = far.underway.fits ∙ sym (ap (λ (l : Log). l.ordinal + 1) q.log) };
           few =
-            let e = ap (λ (rs : List Run). length rs) q.runs in
-            omega (arith, e, joined_length x.start (x.start + length x.bytes) (declared m.image), far.few);
+              let e = ap (λ (rs : List Run). length rs) q.runs in
+              omega (arith, e, joined_length x.start (x.start + length x.bytes) (declared m.image), far.few);
           so = λ z k. far.so z (put_next m p z x rest q k);
         }
 
@@ -199,3 +199,12 @@ change_made s m p s' d e t xs flush a r (fits, number, made) puts commits clean 
           runs = q.runs ∙ ap (λ (rs : List Run). declaring xs rs) none;
           memory = λ i. q.memory i ∙ ap (λ (x : Image). edited xs i (get_or x.memory i 0)) made.image_is;
         }
+
+-- two patches
+pub both_put : (s m p : State) (number : ℕ) (x y : Edit) (xs : List Edit) (a : Unit {0}) (r : Result (Unit {0}) StoreFault) → x ∷ y ∷ [] ≡ xs
+    → Puts s number 1 (x ∷ []) (Ok a) m → Puts m number 1 (y ∷ []) r p → Puts s number 5 xs r p
+both_put s m p number x y xs a r is first second u few =
+    let all = x ∷ y ∷ [] in
+    let one = putting_takes s s m number all all (y ∷ []) x x (Ok a) (omega arith) refl refl (putting_starts s number all) first in
+    let two = putting_takes s m p number all (y ∷ []) [] y y r (omega arith) refl refl (λ u' few'. (one u' few').1) second u few in
+    (two.0, subst (λ (zs : List Edit). Put s zs p) is (two.1.so p (put_none p)))

@@ -5,14 +5,16 @@ ghost use Rattle.changes.specs.Steps.{Puts, Performs};
 
 use crate::performing::put;
 use device::Device;
-use plans::CELL;
 use transactions::{Store, StoreFault, Token};
 
-// How many cells there are.
+// How many cells there are, and how many bytes each has.
 const CELLS: usize = 200;
+
+const CELL: usize = 24;
 
 // Where the free chain has its head, and where cell 1 stands.
 const FREE: usize = 8;
+
 const FIRST: usize = 1072;
 
 // The bytes of all cells, each leading to the next one.

@@ -11,9 +11,10 @@ returns g c =
     let p = c.put_all.new.store in
     let t = c.commit.new.self in
     let same = c.put_all.ensures.device ∙ c.in_ok-token.ensures.device in
-    inr
-    (c.in_ok-token.ensures.state.0,
-    λ clean.
-    subst (λ d. Changes s.state (g.D.Device.disk d) (edits_of c.args.plan.now) c.args.flush c.commit.result t.state (g.D.Device.disk t.device)) same
-    (change_made s.state c.begin.new.self.state p.state t.state (g.D.Device.disk p.device) (g.D.Device.disk t.device) c.in_ok-token.token (edits_of c.args.plan.now) c.args.flush c.in_default.field-0 c.commit.result
-    c.in_ok-token.ensures.state c.in_default.ensures.done c.commit.ensures clean))
+    inr (
+      c.in_ok-token.ensures.state.0,
+      λ clean.
+          subst (λ d. Changes s.state (g.D.Device.disk d) (edits_of c.args.plan.now) c.args.flush c.commit.result t.state (g.D.Device.disk t.device)) same
+          (change_made s.state c.begin.new.self.state p.state t.state (g.D.Device.disk p.device) (g.D.Device.disk t.device) c.in_ok-token.token (edits_of c.args.plan.now) c.args.flush c.in_default.field-0 c.commit.result
+          c.in_ok-token.ensures.state c.in_default.ensures.done c.commit.ensures clean),
+    )

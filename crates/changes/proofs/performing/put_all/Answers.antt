@@ -33,13 +33,14 @@ loop-patch-preserved g c =
     let xs = edits_of c.args.plan.now in
     let x = c.patch-item.result in
     let l = ap length c.deref-patch-items.ensures.0 in
-    let m : length (map edit_of items) ≡ length items = length-map items edit_of in
-    (λ u few.
-    (putting_takes c.args.store.now.state c.loop-patch.store.state c.put.new.store.state c.args.token.now.number xs (drop i xs) (drop (i + 1) xs) (edit_of x) (edit x.start c.deref.result.now) (Ok c.in_ok-put.field-0)
-    (omega (arith, l, m, c.deref-patch-items.ensures.1))
-    (next_edit c.deref-patch-items.result.now items i x c.patch-item.is c.deref-patch-items.ensures.0 c.loop-patch-test.true)
-    (ap (edit x.start) c.deref.ensures.0) c.loop-patch.invariant.0 c.in_ok-put.ensures.done u few).1,
-    c.in_ok-put.ensures.device ∙ c.loop-patch.invariant.1)
+    let m : length (map edit_of items) ≡ length items = length-map items edit_of in (
+      λ u few.
+          (putting_takes c.args.store.now.state c.loop-patch.store.state c.put.new.store.state c.args.token.now.number xs (drop i xs) (drop (i + 1) xs) (edit_of x) (edit x.start c.deref.result.now) (Ok c.in_ok-put.field-0)
+          (omega (arith, l, m, c.deref-patch-items.ensures.1))
+          (next_edit c.deref-patch-items.result.now items i x c.patch-item.is c.deref-patch-items.ensures.0 c.loop-patch-test.true)
+          (ap (edit x.start) c.deref.ensures.0) c.loop-patch.invariant.0 c.in_ok-put.ensures.done u few).1,
+      c.in_ok-put.ensures.device ∙ c.loop-patch.invariant.1,
+    )
 
 pub returns-clause-done : goal.returns-clause-done
 returns-clause-done g c =
