@@ -10,3 +10,4 @@ pub mod Putting
 pub mod Sums
 pub mod Passing
 pub mod Beside
+pub mod Changes
