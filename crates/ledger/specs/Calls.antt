@@ -49,12 +49,13 @@ pub record Done (rows : List Row) (xs : List Edit) (b' : Book) (s : State) (d : 
   pub changes : Changes s d xs flush (Ok (o, records)) s' e
   pub holds : HoldsBook s' b'
 
--- No row of the book fits, and the store refuses the commit, or power fails in it.
+-- No row of the book fits, and the store refuses the commit, or power fails in it. A refusal leaves the memory as it was.
 pub record Undone (rows : List Row) (xs : List Edit) (s : State) (d : Disk) (flush : Bool) (f : LedgerFault) (s' : State) (e : Disk) : Type 0 where
   pub fits : first_fit rows ≡ None
   pub fault : StoreFault
   pub is : f ≡ Store fault
   pub changes : Changes s d xs flush (Err fault) s' e
+  pub left : s'.on ≡ true → s'.image.memory ≡ s.image.memory
 
 -- A changing call on a book, with its rows, its edits and the book after it.
 abbrev pub ChangesBook : List Row → List Edit → Book → State → Disk → Bool → Result ℕ LedgerFault → State → Disk → Type 0

@@ -2,6 +2,7 @@
 
 #![tactic(auto)]
 
+mod changing;
 mod ledger;
 
 pub use ledger::Ledger;

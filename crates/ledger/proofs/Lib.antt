@@ -1,0 +1,3 @@
+-- Lemmas on the calls of a ledger.
+pub mod Standing
+pub mod Booking
