@@ -1,3 +1,7 @@
 -- Lemmas on plans.
 pub mod Standing
 pub mod Planning
+pub mod Cells
+pub mod Following
+pub mod Shortness
+pub mod Seeking

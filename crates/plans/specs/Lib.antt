@@ -1,2 +1,3 @@
 -- What a look at the memory of a ledger plans.
 pub mod Plans
+pub mod Walks

@@ -9,7 +9,8 @@ ghost use Rattle.record.specs.Fields.{digits};
 
 use crate::checks::{check_account, check_some, check_total};
 use crate::plan::Plan;
-use crate::reading::{TOTAL, amount as amount_in, balance, balance_at};
+use crate::chains::{TOTAL, balance_at};
+use crate::reading::{amount as amount_in, balance};
 use book::LedgerFault;
 use image::MEMORY;
 

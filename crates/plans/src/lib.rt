@@ -3,9 +3,12 @@
 #![tactic(auto)]
 
 mod accounts;
+mod chains;
+mod found;
 mod checks;
 mod plan;
 mod reading;
+mod walking;
 
 pub use accounts::{balance_of, plan_issue};
 pub use plan::{PATCHES, Patch, Plan};

@@ -3,10 +3,8 @@ ghost use Rattle.std.specs.Prelude.{◌≡◌, ◌+◌, ◌*◌, ◌≤◌, take
 ghost use Rattle.record.specs.Fields.{field};
 ghost use Rattle.book.specs.Layout.{balance_at};
 
+use crate::chains::balance_at;
 use image::MEMORY;
-
-// Where the total stands that was issued.
-pub(crate) const TOTAL: usize = 0;
 
 // The bytes from `at` on, as many as the number has that they are read as.
 pub(crate) fn part<const N: usize>(memory: &[u8; MEMORY], at: usize) -> [u8; N]
@@ -38,11 +36,4 @@ pub(crate) fn balance(memory: &[u8; MEMORY], account: u16) -> u64
     ensures { result ≡ field (balance_at account) 8 memory.now }
 {
     amount(memory, balance_at(account))
-}
-
-// Where an account has its balance.
-pub(crate) fn balance_at(account: u16) -> usize
-    ensures { result ≡ balance_at account }
-{
-    16 * account as usize
 }

@@ -1,0 +1,51 @@
+// Walks along a chain: for every kind of record, and over any memory, in which a chain might have no end.
+ghost use Rattle.std.specs.Prelude.{◌≡◌, ℕ, ◌+◌, ◌<◌, ◌≤◌, Bool, true, List, map};
+ghost use Rattle.book.specs.Layout.{byte_in, head_at};
+ghost use Rattle.book.specs.Book.{At, Book, Holds, free_cell};
+ghost use Rattle.plans.specs.Walks.{Leads, first_such, seen, Frees, Sought};
+
+use crate::chains::{CELLS, Chain, bucket_of, cell_at};
+use crate::found::{Found, FreeCell};
+use crate::reading::{index, part};
+use book::{CellRecord, LedgerFault, Tag};
+use image::MEMORY;
+
+// The record in the cell to which the index at `link` leads, if it leads to one.
+pub(crate) fn first<R: CellRecord + Drop>(memory: &[u8; MEMORY], link: usize) -> Option<Found<R>>
+    requires { link + 2 ≤ 6144 }
+    ensures { (xs : List (At R)) → Leads R.KIND R.content R.fits (byte_in memory.now) link xs → seen result ≡ first_such (λ _. true) link xs }
+{
+    let number = index(memory, link);
+    if number < 1 || number > CELLS {
+        return None;
+    }
+    let at = cell_at(number);
+    Some(Found {
+        link,
+        number,
+        next: index(memory, at),
+        record: R::from_content(&part(memory, at + 4))?,
+    })
+}
+
+// The first record that passes the test, of those that the index at `head` leads to. No chain has more cells than
+// there are, so a walk that goes on past that many is not along one.
+pub(crate) fn seek<R: CellRecord + Drop, F: Fn(&R) -> bool>(
+    memory: &[u8; MEMORY],
+    head: usize,
+    is_it: F,
+) -> Option<Found<R>>
+    requires within { head + 2 ≤ 6144 }
+    requires callable { F.IsAlwaysCallable is_it }
+    ensures { (test : R → Bool) → ((x : _) (r : _) → F.post is_it x r → r ≡ test x.now) → (xs : List (At R)) → Leads R.KIND R.content R.fits (byte_in memory.now) head xs → seen result ≡ first_such test head xs }
+{
+    let mut link = head;
+    for _i in 0..CELLS {
+        let found = first::<R>(memory, link)?;
+        if is_it(&found.record) {
+            return Some(found);
+        }
+        link = cell_at(found.number);
+    }
+    None
+}
