@@ -1,3 +1,4 @@
 -- Lemmas on the calls of a ledger.
 pub mod Standing
 pub mod Booking
+pub mod Fresh

@@ -1,5 +1,6 @@
 -- What the store's memory is after a change, and how a ledger stands then.
 use Rattle.std.proofs.Common.{◌≡◌, ℕ, ◌+◌, Bool, true, false, ◌&&◌, ◌⊎◌, List, [], get_or, Ok, Err, Result, sym, refl, ap, ◌∙◌, subst, inl, inr}
+use mathlib.Core.Logic.{∥∥₁_map}
 use Rattle.std.proofs.Math.Path.{fun_ext}
 use Rattle.std.proofs.lemmas.Bool.{both_ways, and_parts}
 use Rattle.std.proofs.lemmas.List.{ext_get_or}
@@ -11,6 +12,8 @@ use Rattle.image.specs.Calls.{declared}
 use Rattle.transactions.specs.declared.fault.StoreFault.{StoreFault}
 use Rattle.transactions.specs.declared.log.Log.{Log}
 use Rattle.transactions.specs.declared.state.State.{State}
+use Rattle.transactions.specs.Calls.{Flushes}
+use Rattle.transactions.specs.Truncation.{Truncates}
 use Rattle.transactions.specs.Rows.{first_fit, token_rows}
 use Rattle.book.specs.Layout.{byte_in}
 use Rattle.book.specs.Book.{Book, Holds}
@@ -79,3 +82,40 @@ is_fit fit s h = (and_parts fit s.on h).0
 
 pub is_on : (fit : Bool) (s : State) → on fit s ≡ true → s.on ≡ true
 is_on fit s h = (and_parts fit s.on h).1
+
+-- how the ledger stands after a call of the store's that leaves the memory
+
+pub same_stands : (fit : Bool) (s s' : State) → s' ≡ s → Sound fit s → Sound fit s'
+same_stands fit s s' e sound = subst (λ (x : State). Sound fit x) (sym e) sound
+
+pub off_stands : (fit : Bool) (s : State) → on fit s ≡ false → Sound fit s
+off_stands fit s off =
+    record {
+      books = λ k. absurd (both_ways (on fit s) off k);
+      free = λ k. absurd (both_ways (on fit s) off k);
+      clean = λ k. absurd (both_ways (on fit s) off k);
+    }
+
+store_off : (fit : Bool) (s : State) → s.on ≡ false → on fit s ≡ false
+store_off true s e = e
+store_off false s e = refl
+
+pub kept_stands : (fit : Bool) (s s' : State) → on fit s ≡ true → s'.image ≡ s.image → s'.busy ≡ s.busy → Sound fit s → Sound fit s'
+kept_stands fit s s' awake image busy sound =
+    record {
+      books = λ k. ∥∥₁_map (sound.books awake) (λ x. (x.0, holds_same s s' x.0 (ap (λ (y : Image). y.memory) image) x.1));
+      free = λ k. busy ∙ sound.free awake;
+      clean = λ k. ap (λ (y : Image). declared y) image ∙ sound.clean awake;
+    }
+
+pub flush_stands : (fit : Bool) (s s' : State) (d e : Disk) (r : Result ℕ StoreFault) → on fit s ≡ true → Flushes s d r s' e → Sound fit s → Sound fit s'
+flush_stands fit s s' d e (Ok k) awake (passes, count, inl (none, state, device)) sound = same_stands fit s s' state sound
+flush_stands fit s s' d e (Ok k) awake (passes, count, inr (some, done, written, image, free)) sound = kept_stands fit s s' awake image free sound
+flush_stands fit s s' d e (Err f) awake (inl (fits, state, device)) sound = same_stands fit s s' state sound
+flush_stands fit s s' d e (Err f) awake (inr (passes, some, cut)) sound = off_stands fit s' (store_off fit s' cut.off)
+
+pub truncate_stands : (fit : Bool) (s s' : State) (d e : Disk) (r : Result ℕ StoreFault) → on fit s ≡ true → Truncates s d r s' e → Sound fit s → Sound fit s'
+truncate_stands fit s s' d e (Ok k) awake (passes, inl none) sound = same_stands fit s s' none.state sound
+truncate_stands fit s s' d e (Ok k) awake (passes, inr pages) sound = kept_stands fit s s' awake pages.state.image pages.state.busy sound
+truncate_stands fit s s' d e (Err f) awake (inl (fits, state, device)) sound = same_stands fit s s' state sound
+truncate_stands fit s s' d e (Err f) awake (inr cut) sound = off_stands fit s' (store_off fit s' cut.off)

@@ -8,10 +8,11 @@ use Rattle.transactions.specs.declared.state.State.{State}
 use Rattle.book.specs.declared.fault.LedgerFault.{LedgerFault}
 use Rattle.book.specs.declared.fault.LedgerFault.TheVariants.{Store}
 use Rattle.book.specs.Book.{Book}
-use Rattle.book.specs.Edits.{Edit}
+use Rattle.book.specs.Edits.{Edit, make_edits}
 use Rattle.plans.specs.declared.plan.Plan.{Plan}
 use Rattle.plans.specs.Plans.{edits_of}
 use Rattle.changes.specs.Changes.{Changes}
+use Rattle.changes.specs.Steps.{Performs}
 use Rattle.ledger.specs.Calls.{HoldsBook, on, power_off}
 
 -- Between its calls a ledger that is on stands so: its memory holds a book, no transaction is open, and nothing is
@@ -35,3 +36,9 @@ ChangesTo s d xs flush (Err f) s' e = (fault : StoreFault) × (f ≡ Store fault
 abbrev pub CarriesOut : Result Plan LedgerFault → State → Disk → Bool → Result ℕ LedgerFault → State → Disk → Type 0
 CarriesOut (Ok plan) s d flush r s' e = ChangesTo s d (edits_of plan) flush r s' e
 CarriesOut (Err f) s d flush r s' e = (r ≡ Err f) × (s' ≡ s) × (e ≡ d)
+
+-- Where the format succeeded, the cells are linked; else its refusal is the answer, and nothing moves.
+abbrev pub Links : Result (Unit {0}) StoreFault → State → Disk → Result (Unit {0}) LedgerFault → State → Disk → Type 0
+Links (Err f) s d r s' e = (r ≡ Err (Store f)) × (s' ≡ s) × (e ≡ d)
+Links (Ok _) s d (Ok _) s' e = (x : ℕ × ℕ) × Performs s d make_edits true (Ok x) s' e
+Links (Ok _) s d (Err f) s' e = (fault : StoreFault) × (f ≡ Store fault) × Performs s d make_edits true (Err fault) s' e

@@ -1,23 +1,14 @@
 // The calls that change the book, over the store. Each is planned by a look at the memory, and then carried out.
 ghost use Rattle.std.specs.Prelude.{◌≡◌, true};
-ghost use Rattle.ledger.specs.Calls.{Issues, on};
-ghost use Rattle.ledger.specs.Steps.{Sound, Looks, CarriesOut};
+ghost use Rattle.ledger.specs.Calls.{Issues};
+ghost use Rattle.ledger.specs.Steps.{Sound, CarriesOut};
 
+use crate::looking::look;
 use book::LedgerFault;
 use changes::perform;
-use device::{Device, DeviceFault};
+use device::Device;
 use plans::{Plan, plan_issue};
-use transactions::{MEMORY, Store, StoreFault};
-
-// Lends the memory of a ledger that is on.
-pub(crate) fn look<D: Device>(store: &Store<D>, fit: bool) -> Result<&[u8; MEMORY], LedgerFault>
-    ensures { Looks fit store.now.state result }
-{
-    if !fit {
-        return Err(LedgerFault::Store(StoreFault::Device(DeviceFault::Power(0))));
-    }
-    Ok(store.memory()?)
-}
+use transactions::Store;
 
 // Makes the change that was planned, and answers its ordinal. That the ledger is on was seen when it was planned.
 fn carry_out<D: Device>(

@@ -1,9 +1,11 @@
 // A ledger over a device, and its calls.
 ghost use Rattle.std.specs.Prelude.{◌≡◌};
-ghost use Rattle.ledger.specs.Calls.{Issues};
+ghost use Rattle.ledger.specs.Calls.{Issues, Balances, FlushesLedger, TruncatesLedger};
 ghost use Rattle.ledger.specs.Steps.{Sound};
 
 use crate::changing::issue;
+use crate::flushing::{flush, truncate};
+use crate::looking::balance;
 use book::LedgerFault;
 use device::Device;
 use transactions::Store;
@@ -32,5 +34,28 @@ impl<D: Device> Ledger<D> {
         ensures fit { self.new.fit ≡ self.old.fit }
     {
         issue(&mut self.store, self.fit, account, amount, flush)
+    }
+
+    // The balance of an account.
+    pub fn balance(&self, account: u16) -> Result<u64, LedgerFault>
+        ensures { Balances account self.now.fit self.now.store.state result }
+    {
+        balance(&self.store, self.fit, account)
+    }
+
+    // Writes and settles what waits, and answers how many records that were.
+    pub fn flush(&mut self) -> Result<usize, LedgerFault>
+        ensures flushes { FlushesLedger self.old.fit self.old.store.state (D.Device.disk self.old.store.device) result self.new.store.state (D.Device.disk self.new.store.device) }
+        ensures fit { self.new.fit ≡ self.old.fit }
+    {
+        flush(&mut self.store, self.fit)
+    }
+
+    // Writes what changed in the memory to its homes and begins the log anew. Answers how many pages that were.
+    pub fn truncate(&mut self) -> Result<usize, LedgerFault>
+        ensures truncates { TruncatesLedger self.old.fit self.old.store.state (D.Device.disk self.old.store.device) result self.new.store.state (D.Device.disk self.new.store.device) }
+        ensures fit { self.new.fit ≡ self.old.fit }
+    {
+        truncate(&mut self.store, self.fit)
     }
 }

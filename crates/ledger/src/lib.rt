@@ -3,6 +3,9 @@
 #![tactic(auto)]
 
 mod changing;
+mod flushing;
 mod ledger;
+mod looking;
+mod making;
 
 pub use ledger::Ledger;
