@@ -1,0 +1,41 @@
+// What is issued, and the sum of the balances.
+ghost use Rattle.std.specs.Prelude.{◌≡◌, ℕ, ◌+◌, ◌^◌, ◌<◌, ◌≤◌, MatchOption, slice_index, sum};
+ghost use Rattle.record.specs.Fields.{digits};
+ghost use Rattle.book.specs.Layout.{byte_in, balance_at, Stands};
+ghost use Rattle.audit.specs.Judging.{MoneyJudged};
+
+use crate::bytes::long;
+use crate::layout::{ACCOUNTS, balance_place};
+use transactions::MEMORY;
+
+// No more than this is ever issued.
+const MOST: u64 = 0x7FFF_FFFF_FFFF_FFFF;
+
+// Whether what is issued is the sum of the balances.
+pub(crate) fn money_adds_up(memory: &[u8; MEMORY]) -> bool
+    ensures { MoneyJudged (byte_in memory.now) result }
+{
+    total(&balances(memory)) == Some(long(memory, 0))
+}
+
+// The balances of all accounts.
+fn balances(memory: &[u8; MEMORY]) -> [u64; ACCOUNTS]
+    ensures { (i : ℕ) → i < 64 → Stands (byte_in memory.now) (balance_at (i + 1)) (digits 8 (slice_index result i)) }
+{
+    let mut balances = [0; ACCOUNTS];
+    for (i, balance) in balances.iter_mut().enumerate() {
+        *balance = long(memory, balance_place(i + 1));
+    }
+    balances
+}
+
+// Their sum, unless it is more than may be issued.
+fn total(balances: &[u64]) -> Option<u64>
+    ensures { MatchOption result (2 ^ 63 ≤ sum balances.now) (λ total. (total ≡ sum balances.now) × (total < 2 ^ 63)) }
+{
+    let mut total: u64 = 0;
+    for balance in balances {
+        total = total.checked_add(*balance).filter(|total| *total <= MOST)?;
+    }
+    Some(total)
+}
