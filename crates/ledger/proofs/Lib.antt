@@ -2,3 +2,4 @@
 pub mod Standing
 pub mod Booking
 pub mod Fresh
+pub mod Opened

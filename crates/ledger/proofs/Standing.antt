@@ -1,5 +1,5 @@
 -- What the store's memory is after a change, and how a ledger stands then.
-use Rattle.std.proofs.Common.{◌≡◌, ℕ, ◌+◌, Bool, true, false, ◌&&◌, ◌⊎◌, List, [], get_or, Ok, Err, Result, sym, refl, ap, ◌∙◌, subst, inl, inr}
+use Rattle.std.proofs.Common.{◌≡◌, ℕ, ◌+◌, Bool, true, false, ◌&&◌, ◌⊎◌, List, [], get_or, None, Ok, Err, Result, sym, refl, ap, ◌∙◌, subst, inl, inr}
 use mathlib.Core.Logic.{∥∥₁_map}
 use Rattle.std.proofs.Math.Path.{fun_ext}
 use Rattle.std.proofs.lemmas.Bool.{both_ways, and_parts}
@@ -18,8 +18,7 @@ use Rattle.transactions.specs.Rows.{first_fit, token_rows}
 use Rattle.book.specs.Layout.{byte_in}
 use Rattle.book.specs.Book.{Book, Holds}
 use Rattle.book.specs.Edits.{Edit, after_edits}
-use Rattle.changes.specs.Changes.{Changes}
-use Rattle.changes.specs.Steps.{Underway}
+use Rattle.changes.specs.Changes.{Prepared, Changes}
 use Rattle.changes.proofs.Putting.{some_none, token_fits}
 use Rattle.ledger.specs.Calls.{HoldsBook, on}
 use Rattle.ledger.specs.Steps.{Sound}
@@ -57,10 +56,14 @@ pub record Left (s s' : State) : Type 0 where
   pub free : s'.busy ≡ false
   pub clean : declared s'.image ≡ []
 
+-- the token that was given fits
+pub own_token : (s p : State) (xs : List Edit) → Prepared s xs p → first_fit (token_rows p (s.log.ordinal + 1)) ≡ None
+own_token s p xs made =
+    token_fits p (s.log.ordinal + 1) (record { on = made.on; busy = made.busy; fits = sym (ap (λ (l : Log). l.ordinal + 1) made.log) })
+
 pub undone_leaves : (s s' : State) (d e : Disk) (xs : List Edit) (flush : Bool) (f : StoreFault) → declared s.image ≡ [] → Changes s d xs flush (Err f) s' e → s'.on ≡ true → Left s s'
 undone_leaves s s' d e xs flush f clean (p, made, inl (fits, same, device)) awake =
-    let u : Underway p (s.log.ordinal + 1) = record { on = made.on; busy = made.busy; fits = sym (ap (λ (l : Log). l.ordinal + 1) made.log) } in
-    absurd (some_none (first_fit (token_rows p (s.log.ordinal + 1))) f (token_fits p (s.log.ordinal + 1) u) fits)
+    absurd (some_none (first_fit (token_rows p (s.log.ordinal + 1))) f (own_token s p xs made) fits)
 undone_leaves s s' d e xs flush f clean (p, made, inr (fits, inl refused)) awake =
     record {
       memory = refused.state.0.memory ∙ made.before ∙ unchanged s.image clean;

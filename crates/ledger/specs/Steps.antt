@@ -6,7 +6,7 @@ use Rattle.image.specs.Calls.{declared}
 use Rattle.transactions.specs.declared.fault.StoreFault.{StoreFault}
 use Rattle.transactions.specs.declared.state.State.{State}
 use Rattle.book.specs.declared.fault.LedgerFault.{LedgerFault}
-use Rattle.book.specs.declared.fault.LedgerFault.TheVariants.{Store}
+use Rattle.book.specs.declared.fault.LedgerFault.TheVariants.{Store, NotLedger}
 use Rattle.book.specs.Book.{Book}
 use Rattle.book.specs.Edits.{Edit, make_edits}
 use Rattle.plans.specs.declared.plan.Plan.{Plan}
@@ -42,3 +42,9 @@ abbrev pub Links : Result (Unit {0}) StoreFault → State → Disk → Result (U
 Links (Err f) s d r s' e = (r ≡ Err (Store f)) × (s' ≡ s) × (e ≡ d)
 Links (Ok _) s d (Ok _) s' e = (x : ℕ × ℕ) × Performs s d make_edits true (Ok x) s' e
 Links (Ok _) s d (Err f) s' e = (fault : StoreFault) × (f ≡ Store fault) × Performs s d make_edits true (Err fault) s' e
+
+-- What was opened is a ledger just where its memory holds some book. A refusal of the store stays one.
+abbrev pub Checks : Result (ℕ × ℕ) StoreFault → State → Result (ℕ × ℕ) LedgerFault → Type 0
+Checks (Err f) s r = r ≡ Err (Store f)
+Checks (Ok x) s (Ok y) = (y ≡ x) × (s.on ≡ true → (b : Book) × HoldsBook s b)
+Checks (Ok x) s (Err f) = s.on ≡ true → (f ≡ NotLedger) × ((b : Book) → HoldsBook s b → ⊥)

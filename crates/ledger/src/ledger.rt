@@ -1,11 +1,12 @@
 // A ledger over a device, and its calls.
 ghost use Rattle.std.specs.Prelude.{◌≡◌};
-ghost use Rattle.ledger.specs.Calls.{Issues, Balances, FlushesLedger, TruncatesLedger};
+ghost use Rattle.ledger.specs.Calls.{Makes, OpensLedger, Issues, Balances, FlushesLedger, TruncatesLedger};
 ghost use Rattle.ledger.specs.Steps.{Sound};
 
 use crate::changing::issue;
 use crate::flushing::{flush, truncate};
 use crate::looking::balance;
+use crate::making::{make, open};
 use book::LedgerFault;
 use device::Device;
 use transactions::Store;
@@ -20,6 +21,26 @@ pub struct Ledger<D: Device> {
 }
 
 impl<D: Device> Ledger<D> {
+    // Makes a new ledger on the device: nothing is issued, and every cell is free. Where the store refuses, or power
+    // fails, the ledger is off, and only close works.
+    pub fn make(device: D) -> (Ledger<D>, Result<(), LedgerFault>)
+        ensures { Makes (D.Device.disk device) result.1 (D.Device.disk result.0.store.device) result.0.fit result.0.store.state }
+    {
+        let (store, answer) = make(device);
+        let fit = answer.is_ok();
+        (Ledger { store, fit }, answer)
+    }
+
+    // Opens the ledger that the device holds, and answers the number of transactions found and how many strays were
+    // cleared. Where that is refused, or power fails, the ledger is off, and only close works.
+    pub fn open(device: D) -> (Ledger<D>, Result<(u64, usize), LedgerFault>)
+        ensures { OpensLedger (D.Device.disk device) result.1 (D.Device.disk result.0.store.device) result.0.fit result.0.store.state }
+    {
+        let (store, answer) = open(device);
+        let fit = answer.is_ok();
+        (Ledger { store, fit }, answer)
+    }
+
     // Gives the device back as it is. What waits is lost.
     pub fn close(self) -> D
         ensures { result ≡ self.store.device }
