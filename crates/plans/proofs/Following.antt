@@ -16,7 +16,7 @@ content_read m n kind content h long small whole =
     ap (λ (k : ℕ). take k (drop (cell_at n + 4) m)) (sym long) ∙ stands_part m content (cell_at n + 4) t (omega arith)
 
 module _ {X : Type 0} (kind : ℕ) (content : X → List ℕ) (fits : X → Type 0) where
-  same_first : (xs : List (At X)) → first_of (cells_with kind content xs) ≡ first_of (cells_with 0 (λ _. []) xs)
+  pub same_first : (xs : List (At X)) → first_of (cells_with kind content xs) ≡ first_of (cells_with 0 (λ _. []) xs)
   same_first [] = refl
   same_first (x ∷ xs) = refl
 

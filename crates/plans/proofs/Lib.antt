@@ -5,3 +5,5 @@ pub mod Cells
 pub mod Following
 pub mod Shortness
 pub mod Seeking
+pub mod Fronts
+pub mod Written

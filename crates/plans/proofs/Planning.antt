@@ -2,8 +2,9 @@
 use Rattle.std.proofs.Common.{◌≡◌, ℕ, ◌+◌, ◌-◌, ◌^◌, ◌≤◌, Bool, true, false, not, List, [], ◌∷◌, Some, None, refl, sym, ap, ◌∙◌, nat_lt, arith}
 use Rattle.std.proofs.lemmas.Bool.Decides.{nat_tests}
 use Rattle.book.specs.declared.fault.LedgerFault.{LedgerFault}
-use Rattle.book.specs.Book.{IsAccount}
-use Rattle.book.specs.Rows.{Row, first_fit, is_account}
+use Rattle.book.specs.Book.{Book, IsAccount}
+use Rattle.book.specs.Rows.{Row, first_fit, is_account, same, nothing, short, no_cell}
+use Rattle.plans.specs.Plans.{pay_rows}
 
 -- a row that passes leaves it to those after it
 pub passed : (row : Row) (rows : List Row) → row.0 ≡ false → first_fit (row ∷ rows) ≡ first_fit rows
@@ -18,3 +19,11 @@ account_is a h = grind (arith, nat_tests)
 
 pub not_above : (a n : ℕ) → nat_lt a n ≡ false → n ≤ a
 not_above a n h = grind (arith, nat_tests)
+
+-- a payment that passes its first three tests
+pub pay_to_cell : (b : Book) (payer payee amount : ℕ) → (same payer payee).0 ≡ false → (nothing payer amount).0 ≡ false → (short b payer amount).0 ≡ false
+    → first_fit (pay_rows b payer payee amount) ≡ first_fit (no_cell b payer ∷ [])
+pay_to_cell b payer payee amount h k l =
+    passed (same payer payee) (nothing payer amount ∷ short b payer amount ∷ no_cell b payer ∷ []) h
+    ∙ passed (nothing payer amount) (short b payer amount ∷ no_cell b payer ∷ []) k
+    ∙ passed (short b payer amount) (no_cell b payer ∷ []) l

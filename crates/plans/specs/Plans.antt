@@ -1,8 +1,9 @@
 -- What a plan puts into the memory, and what the plan of a change is.
-use Rattle.std.specs.Prelude.{◌≡◌, ℕ, ◌^◌, ◌≤◌, Bool, true, false, List, map, Some, None, Ok, Err, Result}
+use Rattle.std.specs.Prelude.{◌≡◌, ℕ, ◌^◌, ◌≤◌, Bool, true, false, List, [], ◌∷◌, map, Some, None, Ok, Err, Option, Result}
+use Rattle.book.specs.declared.records.Entry.{Entry}
 use Rattle.book.specs.declared.fault.LedgerFault.{LedgerFault}
 use Rattle.book.specs.Book.{Book, Holds}
-use Rattle.book.specs.Rows.{Row, first_fit}
+use Rattle.book.specs.Rows.{Row, first_fit, same, nothing, short, no_cell}
 use Rattle.book.specs.Edits.{Edit, edit}
 use Rattle.plans.specs.declared.plan.Patch.{Patch}
 use Rattle.plans.specs.declared.plan.Plan.{Plan}
@@ -32,3 +33,12 @@ Told rows memory number (Err f) = first_fit rows ≡ Some f
 abbrev pub Grown : ℕ → Result ℕ LedgerFault → Type 0
 Grown n (Ok x) = x ≡ n
 Grown n (Err f) = 2 ^ 64 ≤ n
+
+-- The rows of a payment between two that are accounts.
+abbrev pub pay_rows : Book → ℕ → ℕ → ℕ → List Row
+pay_rows b payer payee amount = same payer payee ∷ nothing payer amount ∷ short b payer amount ∷ no_cell b payer ∷ []
+
+-- The plan of a collection, and the entry that it takes off.
+abbrev pub Collected : List Row → List Edit → Option Entry → Result (Plan × Entry) LedgerFault → Type 0
+Collected rows edits front (Ok (plan, entry)) = (first_fit rows ≡ None) × (edits_of plan ≡ edits) × (front ≡ Some entry)
+Collected rows edits front (Err f) = first_fit rows ≡ Some f

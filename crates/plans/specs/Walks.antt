@@ -1,8 +1,9 @@
 -- What a walk along a chain finds.
 use Rattle.std.specs.Prelude.{◌≡◌, ℕ, ◌+◌, ◌<◌, ◌≤◌, Bool, true, false, cond, List, [], ◌∷◌, map, Some, None, Ok, Err, Option, Result}
 use Rattle.book.specs.declared.fault.LedgerFault.{LedgerFault}
-use Rattle.book.specs.declared.fault.LedgerFault.TheVariants.{NoCell}
+use Rattle.book.specs.declared.fault.LedgerFault.TheVariants.{NoCell, Unknown}
 use Rattle.book.specs.declared.records.Tag.{Tag}
+use Rattle.book.specs.Records.{bucket_of}
 use Rattle.book.specs.Layout.{cell_at, Cell, cell, bucket_chain, first_of}
 use Rattle.book.specs.Layout as layout
 use Rattle.book.specs.Book.{Book, At}
@@ -66,3 +67,8 @@ Frees a ns (Err f) = (is_empty ns ≡ true) × (f ≡ NoCell a)
 abbrev pub Sought : Book → List ℕ → Option (Found Tag) → Type 0
 Sought b id None = (place_of b id ≡ None) × (account_of b id ≡ None)
 Sought b id (Some r) = (place_of b id ≡ Some (placed r).place) × (account_of b id ≡ Some r.record.account)
+
+-- The account of a tag, or that there is no such tag.
+abbrev pub Known : Book → List ℕ → Result ℕ LedgerFault → Type 0
+Known b id (Ok a) = account_of b id ≡ Some a
+Known b id (Err f) = (account_of b id ≡ None) × (f ≡ Unknown (bucket_of id))

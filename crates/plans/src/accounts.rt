@@ -7,9 +7,9 @@ ghost use Rattle.book.specs.Edits.{edit, issue_edits};
 ghost use Rattle.plans.specs.Plans.{Planned, Told, Grown, edits_of};
 ghost use Rattle.record.specs.Fields.{digits};
 
+use crate::chains::TOTAL;
 use crate::checks::{check_account, check_some, check_total};
 use crate::plan::Plan;
-use crate::chains::{TOTAL, balance_at};
 use crate::reading::{amount as amount_in, balance};
 use book::LedgerFault;
 use image::MEMORY;
@@ -23,11 +23,7 @@ pub fn balance_of(memory: &[u8; MEMORY], account: u16) -> Result<u64, LedgerFaul
 }
 
 // Issuing: more in an account, and in the total.
-pub fn plan_issue(
-    memory: &[u8; MEMORY],
-    account: u16,
-    amount: u64,
-) -> Result<Plan, LedgerFault>
+pub fn plan_issue(memory: &[u8; MEMORY], account: u16, amount: u64) -> Result<Plan, LedgerFault>
     ensures { (b : Book) → Holds (byte_in memory.now) b → Planned (issue_rows b account amount) (issue_edits b account amount) result }
 {
     check_account(account)?;
@@ -40,20 +36,19 @@ pub fn plan_issue(
 
 // What a balance becomes. It has room for all that is issued, if the memory is a ledger's.
 #[tactic(auto, using(std::proofs::lemmas::Grind::common_steps))]
-fn grown(balance: u64, amount: u64) -> Result<u64, LedgerFault>
+pub(crate) fn grown(balance: u64, amount: u64) -> Result<u64, LedgerFault>
     ensures { Grown (balance + amount) result }
 {
     balance.checked_add(amount).ok_or(LedgerFault::NotLedger)
 }
 
 // The new total, and the new balance of an account.
-#[tactic(auto, using(record::proofs::Numbers::bytes_8))]
 fn issuing(account: u16, total: u64, balance: u64) -> Plan
     requires { account ≤ 64 }
     ensures { edits_of result ≡ edit 0 (digits 8 total) ∷ edit (balance_at account) (digits 8 balance) ∷ [] }
 {
     let mut plan = Plan::new();
-    plan.put(TOTAL, &total.to_le_bytes());
-    plan.put(balance_at(account), &balance.to_le_bytes());
+    plan.set_amount(TOTAL, total);
+    plan.set_balance(account, balance);
     plan
 }

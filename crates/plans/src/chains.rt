@@ -5,12 +5,12 @@ ghost use Rattle.book.specs.Records.{bucket_of};
 ghost use Rattle.record.specs.Fields.{digits};
 ghost use Rattle.plans.specs.Walks.{IsChain, chain_number};
 
-use book::CONTENT;
-
 use crate::plan::CELL;
+use book::CONTENT;
 
 // How many cells there are, and buckets.
 pub(crate) const CELLS: u16 = 200;
+
 const BUCKETS: usize = 16;
 
 // Where the total stands that was issued.

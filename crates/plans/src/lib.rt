@@ -4,11 +4,16 @@
 
 mod accounts;
 mod chains;
-mod found;
 mod checks;
+mod found;
+mod paying;
 mod plan;
+mod putting;
 mod reading;
+mod tags;
 mod walking;
 
 pub use accounts::{balance_of, plan_issue};
-pub use plan::{PATCHES, Patch, Plan};
+pub use paying::{plan_collect, plan_move, plan_visit};
+pub use plan::{CELL, PATCHES, Patch, Plan};
+pub use tags::{find_tag, plan_drop, plan_enrol};

@@ -1,13 +1,13 @@
 // Walks along a chain: for every kind of record, and over any memory, in which a chain might have no end.
 ghost use Rattle.std.specs.Prelude.{◌≡◌, ℕ, ◌+◌, ◌<◌, ◌≤◌, Bool, true, List, map};
 ghost use Rattle.book.specs.Layout.{byte_in, head_at};
-ghost use Rattle.book.specs.Book.{At, Book, Holds, free_cell};
+ghost use Rattle.book.specs.Book.{At, Book, Holds, IsAccount};
 ghost use Rattle.plans.specs.Walks.{Leads, first_such, seen, Frees, Sought};
 
 use crate::chains::{CELLS, Chain, bucket_of, cell_at};
 use crate::found::{Found, FreeCell};
 use crate::reading::{index, part};
-use book::{CellRecord, LedgerFault, Tag};
+use book::{CellRecord, Entry, LedgerFault, Tag};
 use image::MEMORY;
 
 // The record in the cell to which the index at `link` leads, if it leads to one.
@@ -48,4 +48,37 @@ pub(crate) fn seek<R: CellRecord + Drop, F: Fn(&R) -> bool>(
         link = cell_at(found.number);
     }
     None
+}
+
+// The front free cell, for something of this account.
+pub(crate) fn front_free(memory: &[u8; MEMORY], account: u16) -> Result<FreeCell, LedgerFault>
+    ensures { (b : Book) → Holds (byte_in memory.now) b → Frees account b.free result }
+{
+    let number = index(memory, Chain::Free.head());
+    if number == 0 {
+        return Err(LedgerFault::NoCell(account));
+    }
+    if number > CELLS {
+        return Err(LedgerFault::NotLedger);
+    }
+    Ok(FreeCell {
+        number,
+        next: index(memory, cell_at(number)),
+    })
+}
+
+// A tag in its bucket.
+pub(crate) fn seek_tag(memory: &[u8; MEMORY], id: &[u8; 8]) -> Option<Found<Tag>>
+    ensures { (b : Book) → Holds (byte_in memory.now) b → Sought b id.now result }
+{
+    let head = Chain::Bucket(bucket_of(id)).head();
+    seek(memory, head, |tag: &Tag| tag.id == *id)
+}
+
+// The front entry of an account.
+pub(crate) fn front_entry(memory: &[u8; MEMORY], account: u16) -> Option<Found<Entry>>
+    requires { IsAccount account }
+    ensures { (b : Book) → Holds (byte_in memory.now) b → seen result ≡ first_such (λ _. true) (head_at account) (b.entries account) }
+{
+    first(memory, Chain::Account(account).head())
 }

@@ -11,7 +11,7 @@ returns-then-number-lt1 g c xs h =
     let R = g.R.CellRecord in
     leads_nowhere R.KIND R.content R.fits g.met.R.CellRecord.long c.args.memory.now (omega arith) c.args.link c.index-number.result xs h c.requires c.index-number.ensures
     (elim c.then-number-lt1.branch [
-      then-number-lt1-via-then-number-lt1 w ↦ inl w.if-number-lt1.true
+      | then-number-lt1-via-then-number-lt1 w ↦ inl w.if-number-lt1.true
       | then-number-lt1-via-else-number-lt1+then-number-gt-CELLS w ↦ inr w.if-number-gt-CELLS.true
     ])
 

@@ -29,14 +29,13 @@ returns-then-is_it g c test answers xs h =
 pub loop-i-preserved : goal.loop-i-preserved
 loop-i-preserved g c =
     let R = g.R.CellRecord in
-    let f = byte_in c.args.memory.now in
-    (
+    let f = byte_in c.args.memory.now in (
       omega (arith, c.cell_at-link.ensures, c.in_ok-found.found.inside.1),
       λ test answers xs h.
-      subst (λ (k : ℕ). GoesOn R.KIND R.content R.fits f test c.args.head k (c.loop-i._i + 1) xs) (sym c.cell_at-link.ensures)
-      (goes_by R.KIND R.content R.fits f test c.args.head c.loop-i.link c.loop-i._i (placed c.in_ok-found.found) xs (c.loop-i.invariant.1 test answers xs h)
-      c.in_ok-found.ensures
-      (sym (answers _ _ c.is_it.ensures) ∙ c.if-is_it.false)),
+          subst (λ (k : ℕ). GoesOn R.KIND R.content R.fits f test c.args.head k (c.loop-i._i + 1) xs) (sym c.cell_at-link.ensures)
+          (goes_by R.KIND R.content R.fits f test c.args.head c.loop-i.link c.loop-i._i (placed c.in_ok-found.found) xs (c.loop-i.invariant.1 test answers xs h)
+          c.in_ok-found.ensures
+          (sym (answers _ _ c.is_it.ensures) ∙ c.if-is_it.false)),
     )
 
 pub returns : goal.returns
