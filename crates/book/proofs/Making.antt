@@ -23,7 +23,7 @@ digits_zero (suc n) zero = refl
 digits_zero (suc n) (suc i) = digits_zero n i
 
 -- the bytes of the free chain
-free_chain_length : (n k : ℕ) → length (free_chain n k) ≡ 24 * k
+pub free_chain_length : (n k : ℕ) → length (free_chain n k) ≡ 24 * k
 unfolding free_chain
 free_chain_length n zero = refl
 free_chain_length n (suc k) =

@@ -2,7 +2,7 @@
 use Rattle.std.specs.Prelude.{◌≡◌, ℕ, ◌^◌, ◌≤◌, Bool, true, false, List, [], ◌∷◌, map, Some, None, Ok, Err, Option, Result}
 use Rattle.book.specs.declared.records.Entry.{Entry}
 use Rattle.book.specs.declared.fault.LedgerFault.{LedgerFault}
-use Rattle.book.specs.Book.{Book}
+use Rattle.book.specs.Book.{Book, Holds}
 use Rattle.book.specs.Rows.{Row, first_fit, same, nothing, short, no_cell}
 use Rattle.book.specs.Edits.{Edit, edit}
 use Rattle.plans.specs.declared.plan.Patch.{Patch}
@@ -24,10 +24,10 @@ abbrev pub Planned : List Row → List Edit → Result Plan LedgerFault → Type
 Planned rows edits (Ok plan) = (first_fit rows ≡ None) × (edits_of plan ≡ edits)
 Planned rows edits (Err f) = first_fit rows ≡ Some f
 
--- And where the answer is a number, it is this.
-abbrev pub Told : List Row → ℕ → Result ℕ LedgerFault → Type 0
-Told rows n (Ok x) = (first_fit rows ≡ None) × (x ≡ n)
-Told rows n (Err f) = first_fit rows ≡ Some f
+-- And where the answer is a number, it is this one of any book that the memory holds.
+abbrev pub Told : List Row → (ℕ → ℕ) → (Book → ℕ) → Result ℕ LedgerFault → Type 0
+Told rows memory number (Ok x) = (first_fit rows ≡ None) × ((b : Book) → Holds memory b → x ≡ number b)
+Told rows memory number (Err f) = first_fit rows ≡ Some f
 
 -- A balance becomes this, or does not fit its field.
 abbrev pub Grown : ℕ → Result ℕ LedgerFault → Type 0

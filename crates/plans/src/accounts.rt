@@ -16,7 +16,7 @@ use image::MEMORY;
 
 // The balance of an account.
 pub fn balance_of(memory: &[u8; MEMORY], account: u16) -> Result<u64, LedgerFault>
-    ensures { (b : Book) → Holds (byte_in memory.now) b → Told (balance_rows account) (b.balances account) result }
+    ensures { Told (balance_rows account) (byte_in memory.now) (λ b. b.balances account) result }
 {
     check_account(account)?;
     Ok(balance(memory, account))

@@ -1,5 +1,6 @@
 -- What each call answers and leaves, on every way out.
 use Rattle.std.specs.Prelude.{◌≡◌, ℕ, ◌+◌, ◌≤◌, Bool, true, false, ◌≢◌, ◌⊎◌, List, [], ◌∷◌, ◌++◌, length, Some, None, Ok, Err, Result}
+use Rattle.std.specs.Borrow.{Bor}
 use Rattle.arrayvec.specs.ArrayVec.{array_vec_len}
 use Rattle.device.specs.declared.fault.DeviceFault.TheVariants.{Power}
 use Rattle.device.specs.Disk.{Disk}
@@ -45,6 +46,11 @@ ReadsRange s start before (Ok u) after = (first_fit (off s ∷ []) ≡ None) × 
 ReadsRange s start before (Err f) after =
     ((first_fit (off s ∷ []) ≡ Some f) × (after ≡ before))
     ⊎ ((g : ImageFault) × (first_fit (off s ∷ []) ≡ None) × (f ≡ from_image g) × Reads start s.image before (Err g) after)
+
+-- The memory is lent as it is, bytes that are not committed too.
+abbrev pub Lends : State → Result (Bor (List ℕ)) StoreFault → Type 0
+Lends s (Ok memory) = (first_fit (off s ∷ []) ≡ None) × (memory.now ≡ s.image.memory)
+Lends s (Err f) = first_fit (off s ∷ []) ≡ Some f
 
 -- The transaction is over and the memory as at begin.
 abbrev pub Undone : State → State → Type 0

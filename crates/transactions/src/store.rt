@@ -1,6 +1,6 @@
 // A store over a device, and its calls.
 ghost use Rattle.std.specs.Prelude.{◌≡◌};
-ghost use Rattle.transactions.specs.Calls.{Begins, SetsRange, WritesRange, ReadsRange, Aborts, Flushes, Commits};
+ghost use Rattle.transactions.specs.Calls.{Begins, SetsRange, WritesRange, ReadsRange, Lends, Aborts, Flushes, Commits};
 ghost use Rattle.transactions.specs.State.{Formatted, Opened, LiesOn};
 ghost use Rattle.transactions.specs.Truncation.{Truncates};
 
@@ -11,6 +11,7 @@ use crate::state::State;
 use crate::token::Token;
 use crate::truncation::truncate_store;
 use device::Device;
+use image::MEMORY;
 
 // A store owns its device until it is closed; a call that doesn't reach it says that it leaves it as it is. Its log,
 // with the homes after it, lies on the device while the store is on.
@@ -89,6 +90,14 @@ impl<D: Device> Store<D> {
         self.state.awake()?;
         self.state.image.read(start, buffer)?;
         Ok(())
+    }
+
+    // Lends the memory to be looked at, bytes that are not committed too.
+    pub fn memory(&self) -> Result<&[u8; MEMORY], StoreFault>
+        ensures { Lends self.now.state result }
+    {
+        self.state.awake()?;
+        Ok(&self.state.image.memory)
     }
 
     // Ends the transaction: its records are written and settled, or wait in the spool. Answers its ordinal

@@ -6,8 +6,8 @@ use Rattle.plans.proofs.Planning.{passed, account_is}
 use Rattle.plans.proofs.accounts.balance_of.Goals as goal
 
 pub returns : goal.returns
-returns c b h =
+returns c =
     let m = c.args.memory.now in
     let a = c.args.account in
     let row = c.in_ok-check_account.ensures in
-    (passed (no_account a) [] row, c.balance.ensures ∙ held_balance m b a h (omega arith) (account_is a row))
+    (passed (no_account a) [] row, λ b h. c.balance.ensures ∙ held_balance m b a h (omega arith) (account_is a row))

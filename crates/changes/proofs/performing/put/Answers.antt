@@ -1,0 +1,12 @@
+-- Neither call is refused.
+use Rattle.std.proofs.Common.{Ok, Err, refl}
+use Rattle.changes.proofs.Putting.{not_set, put_done}
+use Rattle.changes.proofs.performing.put.Goals as goal
+
+pub returns-in_err-set_range-clause-done : goal.returns-in_err-set_range-clause-done
+returns-in_err-set_range-clause-done g c underway few =
+    absurd (not_set c.args.store.now.state c.set_range.new.self.state c.args.token.now.number c.args.start c.args.bytes.now c.in_err-set_range.field-0.0 underway few c.requires.some c.requires.within c.in_err-set_range.ensures.state)
+
+pub returns-clause-done : goal.returns-clause-done
+returns-clause-done g c underway few =
+    put_done c.args.store.now.state c.set_range.new.self.state c.write.new.self.state c.args.token.now.number c.args.start c.args.bytes.now c.in_ok-set_range.field-0 c.write.result underway few c.requires.some c.requires.within c.in_ok-set_range.ensures.state c.write.ensures.state

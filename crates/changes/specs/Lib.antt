@@ -1,0 +1,3 @@
+-- A change of the book as one transaction of the store.
+pub mod Changes
+pub mod Steps

@@ -1,0 +1,52 @@
+// The free chain of a new ledger, and the transaction that links it.
+ghost use Rattle.std.specs.Prelude.{◌≡◌, true};
+ghost use Rattle.book.specs.Edits.{free_chain, make_edits};
+ghost use Rattle.changes.specs.Steps.{Puts, Performs};
+
+use crate::performing::put;
+use device::Device;
+use transactions::{Store, StoreFault, Token};
+
+// How many cells there are, and how many bytes each has.
+const CELLS: usize = 200;
+
+const CELL: usize = 24;
+
+// Where the free chain has its head, and where cell 1 stands.
+const FREE: usize = 8;
+
+const FIRST: usize = 1072;
+
+// The bytes of all cells, each leading to the next one.
+fn links() -> [u8; CELLS * CELL]
+    ensures { result ≡ free_chain 1 200 }
+{
+    let mut bytes = [0; CELLS * CELL];
+    // An index has two bytes, and that of a cell fits in the first one. After the last cell there is none.
+    for i in 0..CELLS - 1 {
+        bytes[CELL * i] = i as u8 + 2;
+    }
+    bytes
+}
+
+// Puts in the free chain's head, and the cells.
+fn put_links<D: Device>(store: &mut Store<D>, token: &Token) -> Result<(), StoreFault>
+    ensures done { Puts store.old.state token.now.number 5 make_edits result store.new.state }
+    ensures device { store.new.device ≡ store.old.device }
+{
+    put(store, token, FREE, &[1, 0])?;
+    put(store, token, FIRST, &links())
+}
+
+// Links the cells of a new ledger by one transaction, with flush.
+pub fn link_cells<D: Device>(store: &mut Store<D>) -> Result<(u64, usize), StoreFault>
+    ensures { Performs store.old.state (D.Device.disk store.old.device) make_edits true result store.new.state (D.Device.disk store.new.device) }
+{
+    let token = store.begin()?;
+    // Two stretches of the memory are never refused.
+    if let Err(fault) = put_links(store, &token) {
+        store.abort(token)?;
+        return Err(fault);
+    }
+    store.commit(token, true)
+}

@@ -1,0 +1,141 @@
+-- A new ledger: the cells of a formatted store are linked by 52 records, and none of the store's rows fits.
+use Rattle.std.proofs.Common.{◌≡◌, ℕ, ◌+◌, ◌-◌, ◌^◌, ◌<◌, ◌≤◌, Bool, true, false, cond, ltb, ◌⊎◌, List, [], ◌∷◌, length, get_or, replicate, None, Some, Ok, Err, Result, sym, refl, ap, ◌∙◌, subst, inl, inr, ⊎_elim, arith}
+use Rattle.std.proofs.Math.Path.{fun_ext}
+use Rattle.std.specs.Result.{is_ok}
+use Rattle.std.proofs.lemmas.Bool.{le-ltb, cases_lt}
+use Rattle.std.proofs.lemmas.List.{get_or-replicate, get_or_past, length-replicate}
+use Rattle.arrayvec.specs.ArrayVec.{array_vec_len}
+use Rattle.device.specs.Disk.{Disk}
+use Rattle.image.specs.declared.run.Run.{Run}
+use Rattle.image.specs.Runs.{run, joined}
+use Rattle.image.specs.Calls.{declared}
+use Rattle.image.specs.Cut.{cut, cut_runs}
+use Rattle.transactions.specs.declared.fault.StoreFault.{StoreFault}
+use Rattle.transactions.specs.declared.log.Log.{Log}
+use Rattle.transactions.specs.declared.state.State.{State}
+use Rattle.transactions.specs.Parts.{Spool}
+use Rattle.transactions.specs.Rows.{first_fit, begin_rows, token_rows, commit_rows}
+use Rattle.transactions.specs.State.{Fresh, Formatted, own}
+use Rattle.transactions.proofs.Loops.{length_parts}
+use Rattle.record.specs.Fields.{digits}
+use Rattle.book.specs.Layout.{byte_in}
+use Rattle.book.specs.Edits.{free_chain, make_edits, declaring, after_edits}
+use Rattle.book.proofs.Making.{free_chain_length, make_holds}
+use Rattle.changes.specs.Changes.{Prepared, Changes}
+use Rattle.changes.proofs.Putting.{some_none}
+use Rattle.book.specs.declared.fault.LedgerFault.{LedgerFault}
+use Rattle.book.specs.declared.fault.LedgerFault.TheVariants.{Store}
+use Rattle.book.specs.Fault.{number}
+use Rattle.book.specs.Book.{Holds, new_book}
+use Rattle.ledger.specs.Calls.{HoldsBook, Makes}
+use Rattle.ledger.specs.Steps.{Sound, Links}
+use Rattle.ledger.proofs.Standing.{own_token, done_changes, holds_after, off_stands}
+
+-- the two runs of a new ledger become 52 records
+pub make_runs : declaring make_edits [] ≡ run 8 10 ∷ run 1072 5872 ∷ []
+unfolding digits
+make_runs = ap (λ (n : ℕ). joined 1072 (1072 + n) (joined 8 10 [])) (free_chain_length 1 200)
+
+pub make_pieces : length (cut_runs (run 8 10 ∷ run 1072 5872 ∷ [])) ≡ 52
+unfolding cut
+make_pieces = refl
+
+pub make_records : (s p : State) → Prepared s make_edits p → length (own p) ≡ 52
+make_records s p made =
+    length_parts (p.log.ordinal + 1) p.image.memory (cut_runs (declared p.image))
+    ∙ ap (λ (rs : List Run). length (cut_runs rs)) (made.runs ∙ make_runs) ∙ make_pieces
+
+-- a store that was just formatted has room for them
+room : (n : ℕ) (s p : State) (k : ℕ) → Fresh n s → Prepared s make_edits p → k ≡ 52 → first_fit (commit_rows p k true) ≡ None
+room n s p k new made e =
+    let log = made.log in
+    let last = ap (λ (l : Log). l.last) log ∙ new.log.last_is in
+    let low = ap (λ (l : Log). l.low) log ∙ new.log.low_is in
+    let empty = ap (λ (x : Spool). array_vec_len x) made.spool ∙ new.idle.empty in
+    let least = p.log.least in
+    rw (e, last, low, empty, le-ltb (p.log.places - 65) 53 (omega arith)) refl
+
+pub make_room : (n : ℕ) (s p : State) → Fresh n s → Prepared s make_edits p → first_fit (commit_rows p (length (own p)) true) ≡ None
+make_room n s p new made = room n s p (length (own p)) new made (make_records s p made)
+
+-- the memory of a formatted store is zeros
+abbrev pub zeros : ℕ → ℕ
+zeros i = 0
+
+pub blank_memory : (n : ℕ) (s : State) → Fresh n s → byte_in s.image.memory ≡ zeros
+blank_memory n s new =
+    fun_ext (λ i. ap (λ (m : List ℕ). get_or m i 0) new.memory ∙ zero_at i)
+  where
+    zero_at : (i : ℕ) → get_or (replicate {A = ℕ} 6144 0) i 0 ≡ 0
+    zero_at i =
+        ⊎_elim
+        (λ (k : i < 6144). get_or-replicate 6144 i 0 0 k)
+        (λ (k : 6144 ≤ i). get_or_past (replicate {A = ℕ} 6144 0) i 0 (subst (λ (m : ℕ). m ≤ i) (sym (length-replicate {A = ℕ} 6144 0)) k))
+        (cases_lt i 6144)
+
+-- what was formatted may begin
+may_begin : (s : State) (f : StoreFault) → s.on ≡ true → s.busy ≡ false → first_fit (begin_rows s) ≡ Some f → ⊥
+may_begin s f on free fits = some_none (first_fit (begin_rows s)) f (rw (on, free) refl) fits
+
+make_answer : (n : ℕ) (new s : State) (m e : Disk) (x : ℕ × ℕ) → Fresh n new → Changes new m make_edits true (Ok x) s e → x ≡ (1, 52)
+make_answer n new s m e x fresh (p, made, (fits, inl none)) =
+    let a = ap (λ (rs : List Run). length rs) (made.runs ∙ make_runs) in
+    let b = ap (λ (rs : List Run). length rs) none.clean in
+    absurd (omega (arith, a, b))
+make_answer n new s m e x fresh (p, made, (fits, inr parts)) =
+    parts.answer
+    ∙ ap (λ (o : ℕ). (o + 1, length (own p))) (ap (λ (l : Log). l.ordinal) made.log ∙ fresh.log.ordinal_is)
+    ∙ ap (λ (k : ℕ). (1, k)) (make_records new p made)
+
+make_power : (n : ℕ) (new s : State) (m e : Disk) (f : StoreFault) → Fresh n new → Changes new m make_edits true (Err f) s e → number (Store f) ≡ 1
+make_power n new s m e f fresh (p, made, inl (fits, same, device)) = absurd (some_none (first_fit (token_rows p (new.log.ordinal + 1))) f (own_token new p make_edits made) fits)
+make_power n new s m e f fresh (p, made, inr (fits, inl refused)) =
+    absurd (some_none (first_fit (commit_rows p (length (own p)) true)) f (make_room n new p fresh made) refused.refused)
+make_power n new s m e f fresh (p, made, inr (fits, inr cut)) = ap (λ (g : StoreFault). number (Store g)) cut.cut.fault
+
+new_holds : (n : ℕ) (new s : State) (m e : Disk) (x : ℕ × ℕ) → Fresh n new → Changes new m make_edits true (Ok x) s e → HoldsBook s new_book
+new_holds n new s m e x fresh ch =
+    holds_after new s make_edits new_book (done_changes new s m e make_edits true x ch)
+    (subst (λ (f : ℕ → ℕ). Holds (after_edits make_edits f) new_book) (sym (blank_memory n new fresh)) make_holds)
+
+pub makes : (d m e : Disk) (new s : State) (formatted : Result (Unit {0}) StoreFault) (r : Result (Unit {0}) LedgerFault)
+    → Formatted d formatted m new → Links formatted new m r s e → Makes d r e (is_ok r) s
+makes d m e new s (Err f) r format (is, state, device) =
+    subst (λ (x : Result (Unit {0}) LedgerFault). Makes d x e (is_ok x) s) (sym is)
+    (refl, inl (record {
+      fault = f;
+      is = refl;
+      format = subst (λ (t : State). Formatted d (Err f) e t) (sym state) (subst (λ (k : Disk). Formatted d (Err f) k new) (sym device) format);
+    }))
+makes d m e new s (Ok u) (Ok v) (n, formats, fresh) (x, inl (f, fits, refused, state, device)) = absurd (may_begin new f fresh.on fresh.idle.free fits)
+makes d m e new s (Ok u) (Ok v) (n, formats, fresh) (x, inr (fits, change)) =
+    let ch = change fresh.idle.clean in
+    (refl, record {
+      new = new;
+      formatted = m;
+      format = (n, formats, fresh);
+      changes = subst (λ (y : ℕ × ℕ). Changes new m make_edits true (Ok y) s e) (make_answer n new s m e x fresh ch) ch;
+      holds = new_holds n new s m e x fresh ch;
+    })
+makes d m e new s (Ok u) (Err f) (n, formats, fresh) (fault, is, inl (g, fits, refused, state, device)) = absurd (may_begin new g fresh.on fresh.idle.free fits)
+makes d m e new s (Ok u) (Err f) (n, formats, fresh) (fault, is, inr (fits, change)) =
+    let ch = change fresh.idle.clean in
+    (refl, inr (record {
+      new = new;
+      formatted = m;
+      format = (n, formats, fresh);
+      fault = fault;
+      is = is;
+      power = ap number is ∙ make_power n new s m e fault fresh ch;
+      changes = ch;
+    }))
+
+pub make_stands : (d m e : Disk) (new s : State) (formatted : Result (Unit {0}) StoreFault) (r : Result (Unit {0}) LedgerFault)
+    → Formatted d formatted m new → Links formatted new m r s e → Sound (is_ok r) s
+make_stands d m e new s (Err f) r format (is, state, device) = subst (λ (x : Result (Unit {0}) LedgerFault). Sound (is_ok x) s) (sym is) (off_stands false s refl)
+make_stands d m e new s (Ok u) (Err f) format links = off_stands false s refl
+make_stands d m e new s (Ok u) (Ok v) (n, formats, fresh) (x, inl (f, fits, refused, state, device)) = absurd (may_begin new f fresh.on fresh.idle.free fits)
+make_stands d m e new s (Ok u) (Ok v) (n, formats, fresh) (x, inr (fits, change)) =
+    let ch = change fresh.idle.clean in
+    let c = done_changes new s m e make_edits true x ch in
+    record { books = λ k. ∣ (new_book, new_holds n new s m e x fresh ch) ∣₁; free = λ k. c.free; clean = λ k. c.clean }

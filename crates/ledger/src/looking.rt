@@ -1,0 +1,28 @@
+// Looks at the memory of a ledger, which change nothing.
+ghost use Rattle.ledger.specs.Calls.{Balances};
+ghost use Rattle.ledger.specs.Steps.{Sound, Looks};
+
+use book::LedgerFault;
+use device::{Device, DeviceFault};
+use plans::balance_of;
+use transactions::{MEMORY, Store, StoreFault};
+
+// Lends the memory of a ledger that is on.
+pub(crate) fn look<D: Device>(store: &Store<D>, fit: bool) -> Result<&[u8; MEMORY], LedgerFault>
+    ensures { Looks fit store.now.state result }
+{
+    if !fit {
+        return Err(LedgerFault::Store(StoreFault::Device(DeviceFault::Power(0))));
+    }
+    Ok(store.memory()?)
+}
+
+pub(crate) fn balance<D: Device>(
+    store: &Store<D>,
+    fit: bool,
+    account: u16,
+) -> Result<u64, LedgerFault>
+    ensures { Balances account fit store.now.state result }
+{
+    balance_of(look(store, fit)?, account)
+}
