@@ -181,6 +181,15 @@ appended n d e low last ordinal memory xs b whole done =
       quiet_settled d e (appending n low last xs) done,
     )
 
+-- then the log says what it said, and after that the items
+pub appended_says : (n : ℕ) (d e : Disk) (low last ordinal : ℕ) (memory : ℕ → ℕ) (xs : List Item) → BeforeItems n d low last ordinal memory xs
+    → Done d (appending n low last xs ++ (settled ∷ [])) e
+    → ((s : ℕ) → low ≤ s → s ≤ last → log n e.shows s ≡ log n d.shows s) × Present low (log n e.shows) last xs
+appended_says n d e low last ordinal memory xs b done =
+    let left = left_done d e (plan n low last xs) (steady n low last xs) done in
+    let each = chosen d e (plan n low last xs) b.quiet left e.shows (λ i. inl refl) in
+    ((grown n d low last ordinal memory xs b e.shows each).old, all_there n d low last ordinal memory xs b e done)
+
 pub append_cut : AppendCut
 append_cut n d e o low last ordinal memory xs b cut shows choice =
     let left = left_short d e (plan n low last xs) o (steady n low last xs) cut in

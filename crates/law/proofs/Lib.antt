@@ -5,6 +5,7 @@ pub mod Writing
 pub mod Committing
 pub mod Cuts
 pub mod Runs
+pub mod Pages
 pub mod Standing
 pub mod Steps
 pub mod Reading

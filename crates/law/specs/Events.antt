@@ -1,7 +1,8 @@
 -- What happens in a run: each call, what it answered, and what it made of the store and the device.
 use Rattle.std.specs.Prelude.{◌≡◌, ℕ, min, Bool, true, false, cond, not, ◌&&◌, ◌⊎◌, List, [], ◌∷◌, ◌++◌, length, take, replicate, Some, None, Ok, Err, Option, Result, nat_le}
 use Rattle.arrayvec.specs.ArrayVec.{array_vec_len}
-use Rattle.device.specs.Disk.{Disk}
+use Rattle.device.specs.Disk.{Disk, Shown}
+use Rattle.device.specs.Meaning.{Failed}
 use Rattle.device.specs.Trace.{Act, Done, Cut}
 use Rattle.image.specs.Calls.{declared, none}
 use Rattle.transactions.specs.declared.fault.StoreFault.{StoreFault}
@@ -10,12 +11,13 @@ use Rattle.transactions.specs.declared.token.Token.{Token}
 use Rattle.transactions.specs.Calls.{Begins, SetsRange, WritesRange, ReadsRange, Aborts, Flushes, Commits, writing}
 use Rattle.transactions.specs.Rows.{first_fit, token_rows, commit_rows}
 use Rattle.transactions.specs.State.{spooled, own, Opened}
+use Rattle.transactions.specs.Truncation.{dirty_pages, due_pages, truncate_rows, truncation, Truncates}
 use Rattle.law.specs.declared.script.Slot.{Slot}
 use Rattle.law.specs.declared.script.Slot.TheVariants.{First, Second}
 use Rattle.law.specs.declared.script.Deed.{Deed}
 use Rattle.law.specs.declared.script.Deed.TheVariants.{Begin, SetRange, Write, Commit, Abort}
 use Rattle.law.specs.declared.script.Call.{Call}
-use Rattle.law.specs.declared.script.Call.TheVariants.{With, Read, Flush, Reopen}
+use Rattle.law.specs.declared.script.Call.TheVariants.{With, Read, Flush, Truncate, Reopen}
 use Rattle.law.specs.declared.script.Told.{Told}
 use Rattle.law.specs.declared.script.Told.TheVariants as told
 
@@ -33,8 +35,8 @@ pub record Moment : Type 0 where
 abbrev pub moment : State → Disk → Option Token → Option Token → Moment
 moment s d first second = record { state = s; disk = d; first = first; second = second }
 
--- A call, its answer, the run before and after it, and the writes and barriers that a commit or a flush made:
--- those that succeeded.
+-- A call, its answer, the run before and after it, and the writes and barriers that a commit, a flush or a
+-- truncation made: those that succeeded.
 pub record Event : Type 0 where
   pub call : Call
   pub answer : Answer
@@ -54,6 +56,10 @@ told_commit (Err f) = Err f
 abbrev pub told_flush : Result ℕ StoreFault → Answer
 told_flush (Ok k) = Ok (told.Flushed k)
 told_flush (Err f) = Err f
+
+abbrev pub told_truncate : Result ℕ StoreFault → Answer
+told_truncate (Ok k) = Ok (told.Truncated k)
+told_truncate (Err f) = Err f
 
 abbrev pub told_open : Result (ℕ × ℕ) StoreFault → Answer
 told_open (Ok x) = Ok (told.Opened x.0 x.1)
@@ -98,7 +104,7 @@ Acts Abort s d None a s' e held = Passed s d None a s' e held
 Acts Abort s d (Some t) a s' e held =
     (e ≡ d) × (held ≡ None) × ((r : Result (Unit {0}) StoreFault) × (a ≡ told_done r) × Aborts s t.number r s')
 
--- Reads up to 96 bytes, flushes, or is closed and opened again.
+-- Reads up to 96 bytes, flushes, truncates, or is closed and opened again.
 abbrev pub Reading : State → ℕ → ℕ → Answer → Type 0
 Reading s start size a =
     (r : Result (Unit {0}) StoreFault) × (bytes : List ℕ) × (a ≡ told_read r bytes)
@@ -106,6 +112,9 @@ Reading s start size a =
 
 abbrev pub Flushing : State → Disk → Answer → State → Disk → Type 0
 Flushing s d a s' e = (r : Result ℕ StoreFault) × (a ≡ told_flush r) × Flushes s d r s' e
+
+abbrev pub Truncating : State → Disk → Answer → State → Disk → Type 0
+Truncating s d a s' e = (r : Result ℕ StoreFault) × (a ≡ told_truncate r) × Truncates s d r s' e
 
 abbrev pub Opening : Disk → Answer → Disk → State → Type 0
 Opening d a e s = (r : Result (ℕ × ℕ) StoreFault) × (a ≡ told_open r) × Opened d r e s
@@ -128,6 +137,13 @@ commit_plan s held flush = cond (does_enter s held flush && flush) (writing s (s
 abbrev pub flush_plan : State → List Act
 flush_plan s = cond (s.on && nat_le 1 (array_vec_len s.spool)) (writing s (spooled s)) []
 
+-- A truncation reads the live log and then, if some page is dirty, writes. The reading writes nothing.
+abbrev pub does_truncate : State → (ℕ → Shown) → Bool
+does_truncate s shows = fits_none (first_fit (truncate_rows s (length (due_pages s shows)))) && nat_le 1 (length (dirty_pages s shows))
+
+abbrev pub truncate_plan : State → (ℕ → Shown) → List Act
+truncate_plan s shows = cond (does_truncate s shows) (truncation s shows) []
+
 abbrev pub deed_plan : Deed → State → Option Token → List Act
 deed_plan Begin s held = []
 deed_plan (SetRange _ _) s held = []
@@ -148,6 +164,10 @@ pub record CutAt (d : Disk) (plan made : List Act) (o : ℕ) (e : Disk) : Type 0
 abbrev pub Traced : List Act → Disk → List Act → Disk → Type 0
 Traced plan d made e = ((made ≡ plan) × Done d plan e) ⊎ ((o : ℕ) × CutAt d plan made o e)
 
+-- Power failed while the live log was read, and nothing was made.
+abbrev pub CutReading : Disk → List Act → Disk → Type 0
+CutReading d made e = (made ≡ []) × ((o : ℕ) × Failed d o e)
+
 -- The tokens stay where they are.
 abbrev pub SameTokens : Moment → Moment → Type 0
 SameTokens m m' = (m'.first ≡ m.first) × (m'.second ≡ m.second)
@@ -160,6 +180,9 @@ TakesPlace (With slot deed) a m m' made =
 TakesPlace (Read start size) a m m' made = Reading m.state start size a × (m' ≡ m) × (made ≡ [])
 TakesPlace Flush a m m' made =
     Flushing m.state m.disk a m'.state m'.disk × SameTokens m m' × Traced (flush_plan m.state) m.disk made m'.disk
+TakesPlace Truncate a m m' made =
+    Truncating m.state m.disk a m'.state m'.disk × SameTokens m m'
+    × (Traced (truncate_plan m.state m.disk.shows) m.disk made m'.disk ⊎ CutReading m.disk made m'.disk)
 TakesPlace Reopen a m m' made = Opening m.disk a m'.disk m'.state × SameTokens m m' × (made ≡ [])
 
 abbrev pub Happens : Event → Type 0

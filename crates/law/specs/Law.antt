@@ -9,8 +9,8 @@ use Rattle.transactions.specs.Fault.{number}
 use Rattle.law.specs.declared.script.Deed.{Deed}
 use Rattle.law.specs.declared.script.Deed.TheVariants.{Begin, SetRange, Write, Commit, Abort}
 use Rattle.law.specs.declared.script.Call.{Call}
-use Rattle.law.specs.declared.script.Call.TheVariants.{With, Read, Flush, Reopen}
-use Rattle.law.specs.declared.script.Told.TheVariants.{Idle, Done, Begun, Bytes, Committed, Flushed, Opened}
+use Rattle.law.specs.declared.script.Call.TheVariants.{With, Read, Flush, Truncate, Reopen}
+use Rattle.law.specs.declared.script.Told.TheVariants.{Idle, Done, Begun, Bytes, Committed, Flushed, Truncated, Opened}
 use Rattle.law.specs.Transactions.{Transaction, made_of}
 use Rattle.law.specs.History.{History}
 use Rattle.law.specs.Events.{Answer, Event, held_in, does_enter}
@@ -48,6 +48,7 @@ after_opening (Ok (Begun _)) h = h
 after_opening (Ok (Bytes _)) h = h
 after_opening (Ok (Committed _ _)) h = h
 after_opening (Ok (Flushed _)) h = h
+after_opening (Ok (Truncated _)) h = h
 after_opening (Ok (Opened found _)) h = record { entered = take found h.entered; kept = found }
 after_opening (Err _) h = h
 
@@ -64,6 +65,7 @@ abbrev pub after_call : Call → Event → History → History
 after_call (With slot deed) e h = after_deed deed e (held_in slot e.before) h
 after_call (Read _ _) e h = h
 after_call Flush e h = with_barrier e.made h.entered h.kept
+after_call Truncate e h = with_barrier e.made h.entered h.kept
 after_call Reopen e h = after_opening e.answer h
 
 abbrev pub after_event : Event → History → History
@@ -97,6 +99,7 @@ abbrev pub LawfulCall : Call → Event → History → Type 0
 LawfulCall (With slot deed) e h = LawfulDeed deed e h
 LawfulCall (Read _ _) e h = Unit {0}
 LawfulCall Flush e h = (k : ℕ) → e.answer ≡ Ok (Flushed k) → AllKept (after_event e h)
+LawfulCall Truncate e h = (k : ℕ) → e.answer ≡ Ok (Truncated k) → AllKept (after_event e h)
 LawfulCall Reopen e h = OpensLawfully e.answer e.after.state.image.memory h
 
 abbrev pub Lawful : Event → History → Type 0

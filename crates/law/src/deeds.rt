@@ -1,5 +1,5 @@
 // The calls of a script, one at a time.
-ghost use Rattle.law.specs.Events.{Acts, Reading, Flushing, Opening};
+ghost use Rattle.law.specs.Events.{Acts, Reading, Flushing, Truncating, Opening};
 ghost use Rattle.std.specs.Prelude.{◌≡◌, None};
 
 use crate::script::{Answer, Deed, Told};
@@ -65,6 +65,12 @@ pub(crate) fn flush<D: Device>(store: &mut Store<D>) -> Answer
     ensures { Flushing store.old.state (D.Device.disk store.old.device) result store.new.state (D.Device.disk store.new.device) }
 {
     store.flush().map(Told::Flushed)
+}
+
+pub(crate) fn truncate<D: Device>(store: &mut Store<D>) -> Answer
+    ensures { Truncating store.old.state (D.Device.disk store.old.device) result store.new.state (D.Device.disk store.new.device) }
+{
+    store.truncate().map(Told::Truncated)
 }
 
 // Closes the store, and opens it again on its device.

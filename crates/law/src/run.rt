@@ -2,7 +2,7 @@
 ghost use Rattle.law.specs.Run.{Ran, Stepped, Worked, moment_of};
 ghost use Rattle.std.specs.Prelude.{◌≡◌};
 
-use crate::deeds::{act, flush, read, reopen};
+use crate::deeds::{act, flush, read, reopen, truncate};
 use crate::script::{Answer, Call, Deed, Slot};
 use device::Device;
 use transactions::{Store, StoreFault, Token};
@@ -46,6 +46,10 @@ impl<D: Device> Run<D> {
             }
             Call::Flush => {
                 let answer = flush(&mut self.store);
+                (self, answer)
+            }
+            Call::Truncate => {
+                let answer = truncate(&mut self.store);
                 (self, answer)
             }
             Call::Reopen => {

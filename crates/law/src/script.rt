@@ -29,6 +29,7 @@ pub enum Call<'a> {
     // Reads so many bytes from the first on, 96 at most.
     Read(usize, usize),
     Flush,
+    Truncate,
     // Closes the store and opens it again on its device. Tokens that are held are stale from then on.
     Reopen,
 }
@@ -48,6 +49,8 @@ pub enum Told {
     Committed(u64, usize),
     // How many records.
     Flushed(usize),
+    // How many pages were dirty.
+    Truncated(usize),
     // The number found, and how many strays.
     Opened(u64, usize),
 }

@@ -125,9 +125,8 @@ impl<D: Device> Store<D> {
         flush_store(&mut self.device, &mut self.state)
     }
 
-    // Writes dirty pages home and begins the log anew at a mark. Answers how many pages were dirty. It stays
-    // inside this crate until the law of runs speaks of it too.
-    pub(crate) fn truncate(&mut self) -> Result<usize, StoreFault>
+    // Writes dirty pages home and begins the log anew at a mark. Answers how many pages were dirty.
+    pub fn truncate(&mut self) -> Result<usize, StoreFault>
         ensures { Truncates self.old.state (D.Device.disk self.old.device) result self.new.state (D.Device.disk self.new.device) }
     {
         truncate_store(&mut self.device, &mut self.state)
