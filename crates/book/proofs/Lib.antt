@@ -1,2 +1,8 @@
 -- Lemmas on the book.
 pub mod Examples
+pub mod Standing
+pub mod Places
+pub mod Chaining
+pub mod Threads
+pub mod Keeping
+pub mod Putting
