@@ -6,3 +6,4 @@ pub mod Chaining
 pub mod Threads
 pub mod Keeping
 pub mod Putting
+pub mod Totals

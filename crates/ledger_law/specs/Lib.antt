@@ -1,0 +1,4 @@
+-- The law over every run of a ledger.
+pub mod Events
+pub mod Law
+pub mod Run
