@@ -7,10 +7,13 @@ use native.Mathlib.Bridge.{le_prop}
 use Rattle.std.proofs.lemmas.List.{nil_from_length, append_assoc, length-append, length-drop, length-map, length_push, length-take-le, take-append-drop, take-append-le, take_all, drop-append-le, drop_all}
 use Rattle.std.proofs.lemmas.Bool.{both_ways, ltb-false, lt-ltb, le-leb, cases_Bool, cond-true, cond-false}
 use Rattle.device.specs.Disk.{Disk, Plate}
+use Rattle.device.specs.Meaning.{Quiet}
 use Rattle.device.specs.Trace.{Act, settled, Done, CutShort}
 use Rattle.device.proofs.Plans.{done_plate}
+use Rattle.journal.specs.Log.{log}
 use Rattle.durability.specs.Items.{Item, appending}
 use Rattle.durability.specs.Standing.{Firm}
+use Rattle.durability.proofs.Growth.{Present}
 use Rattle.recovery.specs.Opening.{Divides}
 use Rattle.image.specs.declared.run.Run.{Run}
 use Rattle.image.specs.Runs.{Declared, is_declared, Apart, Inside}
@@ -22,12 +25,12 @@ use Rattle.transactions.specs.declared.state.State.{State}
 use Rattle.transactions.specs.Parts.{item_of}
 use Rattle.transactions.specs.Rows.{Row, first_fit, serials, full, spool_full, commit_rows}
 use Rattle.transactions.specs.State.{live, spooled, own}
-use Rattle.transactions.specs.Calls.{writing, Written, SpooledUp, CutWriting, CommitsParts, CommitCut}
+use Rattle.transactions.specs.Calls.{writing, Written, SpooledUp, CommitsParts, CommitCut}
 use Rattle.law.specs.Transactions.{Transaction, made_of, batch, Proper, AllProper}
 use Rattle.law.specs.History.{History, Resting, Safe}
 use Rattle.law.specs.Law.{own_transaction}
 use Rattle.law.proofs.Batches.{batch_append, batch_one, applied_append, proper_append, long_batch, proper_drop}
-use Rattle.law.proofs.Writing.{kept_of, followed, BeforeBatch, writing_batch, batch_written, batch_cut}
+use Rattle.law.proofs.Writing.{kept_of, followed, BeforeBatch, writing_batch, batch_written, batch_says, batch_cut}
 
 -- the ghost facts of runs, which have one proof each
 
@@ -103,10 +106,10 @@ room_for s k flush e =
       places = omega (arith, ltb-false (s.log.places - 65) (live s + array_vec_len s.spool + k) b.0, s.log.least);
     }
 
-long_spool : (s : State) → length (spooled s) ≡ array_vec_len s.spool
+pub long_spool : (s : State) → length (spooled s) ≡ array_vec_len s.spool
 long_spool s = length-map s.spool.items item_of
 
-none_spooled : (s : State) → array_vec_len s.spool ≡ 0 → spooled s ≡ []
+pub none_spooled : (s : State) → array_vec_len s.spool ≡ 0 → spooled s ≡ []
 none_spooled s e = ap (λ (xs : List Spooled). map item_of xs) (nil_from_length s.spool.items e)
 
 -- These records are those of these transactions, and may be written.
@@ -176,9 +179,9 @@ module _ (lay : PiecesLay) (fit : PiecesFit) (none : PiecesNone) (n : ℕ) (d : 
           before = before;
         }
 
-    cut_safe : (f : StoreFault) (s' : State) (e : Disk) → CutWriting s d xs f s' e → Safe n e (followed h us)
-    cut_safe f s' e c =
-        batch_cut lay fit none n d e s.log.low s.log.last h us ready c.origin (subst (λ (p : List Act). CutShort d p c.origin e) plan_is c.cut) r.divides
+    cut_safe : (o : ℕ) (e : Disk) → CutShort d (writing s xs) o e → Safe n e (followed h us)
+    cut_safe o e cut =
+        batch_cut lay fit none n d e s.log.low s.log.last h us ready o (subst (λ (p : List Act). CutShort d p o e) plan_is cut) r.divides
 
   -- a flush
 
@@ -201,9 +204,29 @@ module _ (lay : PiecesLay) (fit : PiecesFit) (none : PiecesNone) (n : ℕ) (d : 
       (subst (λ (o : ℕ). Written s (spooled s) o s') (r.number ∙ ap length (sym whole)) left)
       (λ i k. ap (λ x. get_or x.before i 0) image ∙ r.before i k ∙ ap (λ (ts : List Transaction). made_of ts i) (sym whole)))
 
-  pub flush_cut : (f : StoreFault) (s' : State) (e : Disk) → CutWriting s d (spooled s) f s' e → Safe n e h
-  flush_cut f s' e c =
-      subst (λ (ts : List Transaction). Safe n e (record { entered = ts; kept = h.kept })) whole (cut_safe rest (spooled s) flush_ready f s' e c)
+  pub flush_cut : (o : ℕ) (e : Disk) → CutShort d (writing s (spooled s)) o e → Safe n e h
+  flush_cut o e cut =
+      subst (λ (ts : List Transaction). Safe n e (record { entered = ts; kept = h.kept })) whole (cut_safe rest (spooled s) flush_ready o e cut)
+
+  -- What the device holds after it.
+  pub flush_firm : (e : Disk) → Done d (writing s (spooled s)) e → Firm n e.shows s.log.low (s.log.last + array_vec_len s.spool) (length h.entered) (made_of h.entered) × Quiet e
+  flush_firm e done =
+      let w = flush_ready in
+      let b = batch_written lay fit none n d e s.log.low s.log.last h rest (ready rest (spooled s) w) (subst (λ (p : List Act). Done d p e) (plan_is rest (spooled s) w) done) in
+      let long : h.kept + length rest ≡ length h.entered = omega (arith, r.few, length-drop h.kept h.entered) in
+      let last : length (batch h.kept rest) ≡ array_vec_len s.spool = omega (arith, long_spool s, ap length r.waits) in (
+        subst (λ (k : ℕ). Firm n e.shows s.log.low (s.log.last + k) (length h.entered) (made_of h.entered)) last
+            (subst (λ (k : ℕ). Firm n e.shows s.log.low (s.log.last + length (batch h.kept rest)) k (made_of h.entered)) long
+            (subst (λ (ts : List Transaction). Firm n e.shows s.log.low (s.log.last + length (batch h.kept rest)) (h.kept + length rest) (made_of ts)) whole b.0)),
+        b.1,
+      )
+
+  pub flush_says : (e : Disk) → Done d (writing s (spooled s)) e
+      → ((t : ℕ) → s.log.low ≤ t → t ≤ s.log.last → log n e.shows t ≡ log n d.shows t) × Present s.log.low (log n e.shows) s.log.last (spooled s)
+  flush_says e done =
+      let w = flush_ready in
+      let b = batch_says lay fit none n d e s.log.low s.log.last h rest (ready rest (spooled s) w) (subst (λ (p : List Act). Done d p e) (plan_is rest (spooled s) w) done) in
+      (b.0, subst (λ (xs : List Item). Present s.log.low (log n e.shows) s.log.last xs) (sym r.waits) b.1)
 
   -- a commit of records
 
@@ -255,7 +278,7 @@ module _ (lay : PiecesLay) (fit : PiecesFit) (none : PiecesNone) (n : ℕ) (d : 
   pub commit_cut : (flush : Bool) (f : StoreFault) (s' : State) (e : Disk) → CommitCut s d flush f s' e → Safe n e (entering s h h.kept)
   commit_cut flush f s' e c =
       subst (λ (ts : List Transaction). Safe n e (record { entered = ts; kept = h.kept })) whole_more
-      (cut_safe more (spooled s ++ own s) (commit_ready c.some (room_for s (length (own s)) flush c.passes)) f s' e c.cut)
+      (cut_safe more (spooled s ++ own s) (commit_ready c.some (room_for s (length (own s)) flush c.passes)) c.cut.origin e c.cut.cut)
 
   -- A commit without flush enters its transaction, and keeps what was kept.
   pub commit_spooled : (x : ℕ × ℕ) (s' : State) (e : Disk) → CommitsParts s d false x s' e → Resting n e s' (entering s h h.kept)

@@ -1,21 +1,22 @@
 -- Plans that end in a barrier: all of them made, or cut by power, and never both.
-use Rattle.std.proofs.Common.{◌≡◌, ℕ, ◌+◌, true, false, List, [], ◌∷◌, ◌++◌, length, refl, ap, ◌∙◌, inl, inr, arith}
+use Rattle.std.proofs.Common.{◌≡◌, ℕ, ◌+◌, true, false, ◌⊎◌, List, [], ◌∷◌, ◌++◌, length, refl, ap, ◌∙◌, subst, inl, inr, ⊎_elim, arith}
 use Rattle.std.proofs.lemmas.List.{length-append}
 use Rattle.std.proofs.lemmas.Bool.{both_ways}
 use Rattle.device.specs.Disk.{Disk}
 use Rattle.device.specs.Meaning.{Failed}
-use Rattle.device.specs.Trace.{Act, looked, wrote, settled, restarted, Cut, Done, CutShort}
+use Rattle.device.specs.Trace.{Act, looked, wrote, settled, restarted, Does, Cut, Done, CutShort}
+use Rattle.device.proofs.Plans.{cut_after}
 use Rattle.durability.specs.Items.{Item, appending}
 use Rattle.law.specs.Events.{CutAt, Traced}
 use Rattle.law.specs.Law.{settles}
 
 -- power that fails leaves the device off
 
-failed_off : (d e : Disk) (o : ℕ) → Failed d o e → e.on ≡ false
+pub failed_off : (d e : Disk) (o : ℕ) → Failed d o e → e.on ≡ false
 failed_off d e o (inl h) = ap (λ (x : Disk). x.on) h.same ∙ h.off
 failed_off d e o (inr (_, h)) = h.off
 
-cut_off : (a : Act) (d e : Disk) (o : ℕ) → Cut a d o e → e.on ≡ false
+pub cut_off : (a : Act) (d e : Disk) (o : ℕ) → Cut a d o e → e.on ≡ false
 cut_off looked d e o h = failed_off d e o h
 cut_off (wrote s bytes) d e o (inl h) = failed_off d e o (inl h)
 cut_off (wrote s bytes) d e o (inr h) = h.off
@@ -38,22 +39,65 @@ cut_at d e (a ∷ plan) o (inr (m, does, rest)) =
       record { act = c.act; rest = c.rest; all = ap (λ (xs : List Act). a ∷ xs) c.all; reached = c.reached; done = (m, does, c.done); cut = c.cut },
     )
 
+pub short_at : (d e : Disk) (plan made : List Act) (o : ℕ) → CutAt d plan made o e → CutShort d plan o e
+short_at d e plan made o c =
+    subst (λ (p : List Act). CutShort d p o e) c.all (cut_after d c.reached e made (c.act ∷ c.rest) o c.done (inl c.cut))
+
+-- Power cut the first of two plans, or the second after all of the first.
+pub record CutLater (d : Disk) (first second made : List Act) (o : ℕ) (e : Disk) : Type 0 where
+  pub between : Disk
+  pub before : Done d first between
+  pub more : List Act
+  pub made_are : made ≡ first ++ more
+  pub cut : CutAt between second more o e
+
+pub cut_parts : (d e : Disk) (first second made : List Act) (o : ℕ) → CutAt d (first ++ second) made o e → CutAt d first made o e ⊎ CutLater d first second made o e
+cut_parts d e [] second made o c = inr (record { between = d; before = refl; more = made; made_are = refl; cut = c })
+cut_parts d e (a ∷ first) second [] o c =
+    inl (record { act = c.act; rest = first; all = cc_head c.all; reached = c.reached; done = c.done; cut = c.cut })
+  where
+    cc_head : c.act ∷ c.rest ≡ a ∷ (first ++ second) → c.act ∷ first ≡ a ∷ first
+    cc_head same = cc
+cut_parts d e (a ∷ first) second (x ∷ made) o c =
+    let all = c.all in
+    let same : x ≡ a = cc in
+    let tail : made ++ (c.act ∷ c.rest) ≡ first ++ second = cc in
+    let done = c.done in
+    let m = done.0 in
+    let does = subst (λ (y : Act). Does y d m) same done.1 in
+    ⊎_elim
+    (λ (k : CutAt m first made o e).
+    inl (record { act = k.act; rest = k.rest; all = two x a (made ++ (k.act ∷ k.rest)) first same k.all; reached = k.reached; done = (m, done.1, k.done); cut = k.cut }))
+    (λ (k : CutLater m first second made o e).
+    inr (record { between = k.between; before = (m, does, k.before); more = k.more; made_are = two x a made (first ++ k.more) same k.made_are; cut = k.cut }))
+    (cut_parts m e first second made o (record { act = c.act; rest = c.rest; all = tail; reached = c.reached; done = done.2; cut = c.cut }))
+  where
+    two : (x y : Act) (xs ys : List Act) → x ≡ y → xs ≡ ys → x ∷ xs ≡ y ∷ ys
+    two x y xs ys p q = cc
+
 -- Nothing is made of a plan of nothing.
 pub none_made : (d e : Disk) (made : List Act) → Traced [] d made e → made ≡ []
 none_made d e made (inl (same, _)) = same
 none_made d e made (inr (o, c)) = absurd (omega (arith, length-append made (c.act ∷ c.rest), ap length c.all))
 
 -- Once a barrier ends a plan, the device is on, and so it was not cut.
-done_on : (d e : Disk) (acts : List Act) → Done d (acts ++ (settled ∷ [])) e → e.on ≡ true
+pub done_on : (d e : Disk) (acts : List Act) → Done d (acts ++ (settled ∷ [])) e → e.on ≡ true
 done_on d e [] (m, does, same) = ap (λ (x : Disk). x.on) same ∙ does.on
 done_on d e (a ∷ acts) (m, _, rest) = done_on m e acts rest
 
-settles_all : (acts : List Act) → settles (acts ++ (settled ∷ [])) ≡ true
+pub settles_all : (acts : List Act) → settles (acts ++ (settled ∷ [])) ≡ true
 settles_all [] = refl
 settles_all (looked ∷ acts) = settles_all acts
 settles_all (wrote _ _ ∷ acts) = settles_all acts
 settles_all (settled ∷ acts) = refl
 settles_all (restarted ∷ acts) = settles_all acts
+
+pub settles_left : (acts more : List Act) → settles acts ≡ true → settles (acts ++ more) ≡ true
+settles_left [] more h = absurd (both_ways false refl h)
+settles_left (looked ∷ acts) more h = settles_left acts more h
+settles_left (wrote _ _ ∷ acts) more h = settles_left acts more h
+settles_left (settled ∷ acts) more h = refl
+settles_left (restarted ∷ acts) more h = settles_left acts more h
 
 -- records that are appended have no barrier before their end
 settles_first : (n low last : ℕ) (items : List Item) (made rest : List Act) (act : Act) → made ++ (act ∷ rest) ≡ appending n low last items ++ (settled ∷ []) → settles made ≡ false

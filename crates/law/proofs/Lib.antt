@@ -6,7 +6,11 @@ pub mod Committing
 pub mod Cuts
 pub mod Runs
 pub mod Pages
+pub mod Says
+pub mod Covering
+pub mod Truncating
 pub mod Standing
+pub mod Truncated
 pub mod Steps
 pub mod Reading
 pub mod Tracing

@@ -1,7 +1,7 @@
 -- Records of pages that hold what the memory holds: they change no byte of it, and each is one that stands alone.
 use Rattle.std.proofs.Common.{◌≡◌, ℕ, zero, suc, ◌+◌, ◌-◌, ◌*◌, ◌<◌, ◌≤◌, Bool, true, false, cond, List, [], ◌∷◌, ◌++◌, map, length, get_or, take, drop, sym, refl, ap, ◌∙◌, subst, inl, inr, ⊎_elim, arith}
 use Rattle.std.proofs.lemmas.Bool.{cases_lt}
-use Rattle.std.proofs.lemmas.List.{length-take, length-drop}
+use Rattle.std.proofs.lemmas.List.{length-take, length-drop, get_or-take, get_or-drop}
 use Rattle.device.specs.Disk.{Among}
 use Rattle.record.specs.Good.{Fits}
 use Rattle.journal.specs.Memory.{overlaid}
@@ -19,12 +19,12 @@ Inside (p ∷ ps) = (p < 64) × Inside ps
 pub chosen_passes : (test : ℕ → Bool) (i k p : ℕ) → Among p (chosen test i k) → (p < i + k) × (test p ≡ true)
 unfolding chosen
 chosen_passes test i zero p h = absurd h
-chosen_passes test i (suc k) p h = go (test i) refl h
+chosen_passes test i (suc k) p h = go (test i) refl (λ rest. let r = chosen_passes test (i + 1) k p rest in (omega (arith, r.0), r.1)) h
   where
-    go : (c : Bool) → test i ≡ c → Among p (cond c (i ∷ chosen test (i + 1) k) (chosen test (i + 1) k)) → (p < i + suc k) × (test p ≡ true)
-    go true e (inl same) = (omega (arith, same), ap test same ∙ e)
-    go true e (inr rest) = let r = chosen_passes test (i + 1) k p rest in (omega (arith, r.0), r.1)
-    go false e rest = let r = chosen_passes test (i + 1) k p rest in (omega (arith, r.0), r.1)
+    go : (c : Bool) → test i ≡ c → (Among p (chosen test (i + 1) k) → (p < i + suc k) × (test p ≡ true)) → Among p (cond c (i ∷ chosen test (i + 1) k) (chosen test (i + 1) k)) → (p < i + suc k) × (test p ≡ true)
+    go true e later (inl same) = (omega (arith, same), ap test same ∙ e)
+    go true e later (inr rest) = later rest
+    go false e later rest = later rest
 
 pub inside_all : (ps : List ℕ) → ((p : ℕ) → Among p ps → p < 64) → Inside ps
 inside_all [] h = tt
@@ -33,11 +33,11 @@ inside_all (p ∷ ps) h = (h p (inl refl), inside_all ps (λ q k. h q (inr k)))
 pub chosen_few : (test : ℕ → Bool) (i k : ℕ) → length (chosen test i k) ≤ k
 unfolding chosen
 chosen_few test i zero = omega arith
-chosen_few test i (suc k) = go (test i)
+chosen_few test i (suc k) = go (test i) (chosen_few test (i + 1) k)
   where
-    go : (c : Bool) → length (cond c (i ∷ chosen test (i + 1) k) (chosen test (i + 1) k)) ≤ suc k
-    go true = omega (arith, chosen_few test (i + 1) k)
-    go false = omega (arith, chosen_few test (i + 1) k)
+    go : (c : Bool) → length (chosen test (i + 1) k) ≤ k → length (cond c (i ∷ chosen test (i + 1) k) (chosen test (i + 1) k)) ≤ suc k
+    go true h = omega arith
+    go false h = omega arith
 
 module _ (o : ℕ) (m : List ℕ) (whole : length m ≡ 6144) where
   pub long_page : (p : ℕ) → p < 64 → length (take 96 (drop (p * 96) m)) ≡ 96
@@ -68,7 +68,11 @@ module _ (o : ℕ) (m : List ℕ) (whole : length m ≡ 6144) where
 
   -- a byte of the page is what the record has there
   page_byte : (p i : ℕ) → p * 96 ≤ i → i < p * 96 + 96 → get_or (take 96 (drop (p * 96) m)) (i - p * 96) 0 ≡ get_or m i 0
-  page_byte p i a b = search arith
+  page_byte p i a b =
+      let at : p * 96 + (i - p * 96) ≡ i = omega arith in
+      get_or-take 96 (drop (p * 96) m) (i - p * 96) 0 (omega arith)
+      ∙ get_or-drop (p * 96) m (i - p * 96) 0
+      ∙ ap (λ (j : ℕ). get_or m j 0) at
 
   put_page : (p i : ℕ) → p < 64 → overlaid (p * 96 + 0) (take 96 (drop (p * 96) m)) i (get_or m i 0) ≡ get_or m i 0
   put_page p i h =

@@ -20,7 +20,7 @@ use Rattle.transactions.specs.State.{Opened, MadeOf, spooled, own}
 use Rattle.transactions.specs.Calls.{Begins, OnImage, Undone, Aborts, Flushes, Commits, CommitsNothing, CommitsParts, CommitCut, writing}
 use Rattle.law.specs.declared.script.Deed.TheVariants.{Begin, SetRange, Write, Commit, Abort}
 use Rattle.law.specs.declared.script.Call.{Call}
-use Rattle.law.specs.declared.script.Call.TheVariants.{With, Read, Flush, Reopen}
+use Rattle.law.specs.declared.script.Call.TheVariants.{With, Read, Flush, Truncate, Reopen}
 use Rattle.law.specs.declared.script.Told.TheVariants as told
 use Rattle.law.specs.Transactions.{Transaction, made_of}
 use Rattle.law.specs.History.{History, Resting, Sound}
@@ -28,6 +28,7 @@ use Rattle.law.specs.Events.{Answer, Moment, held_in, Passed, Acts, Traced, Take
 use Rattle.law.specs.Law.{own_transaction, settles, with_barrier, entered_after, after_opening, after_event, OpensLawfully, AllKept, Lawful}
 use Rattle.law.proofs.Openings.{open_found, open_failed}
 use Rattle.law.proofs.Committing.{entering, all_kept, empty_kept, flush_done, flush_cut, commit_done, commit_cut, commit_spooled}
+use Rattle.law.proofs.Truncated.{TruncateKeeps, truncate_answers}
 use Rattle.law.proofs.Cuts.{none_made, done_settles, cut_settles}
 use Rattle.law.proofs.Standing.{Standing, event, rests, safe, same_stands, on_stands, off_stands, moved, awake, shown, asleep}
 
@@ -280,7 +281,7 @@ module _ (n : ℕ) (s s' : State) (d e : Disk) (h : History) (w : Sound n s d h)
       let is : with_barrier made h.entered h.kept ≡ h = none_settled made h.entered h.kept barrier in (
         λ j same. absurd (let z : ◌≡◌ {A = ℕ} 0 1 = cc in omega arith),
         subst (λ (g : History). Sound n s' e g) (sym is)
-            (off_stands n s' e h c.off (flush_cut runs_lay runs_fit runs_none n d s h (rests n s d h w on) f s' e c)),
+            (off_stands n s' e h c.off (flush_cut runs_lay runs_fit runs_none n d s h (rests n s d h w on) c.origin e c.cut)),
       )
 
   -- an opening
@@ -323,6 +324,9 @@ step n (Read start size) a m m' made h w (_, same, _) = (tt, subst (λ (x : Mome
 step n Flush a m m' made h w ((r, is, does), _, traced) =
     subst (λ (b : Answer). FlushKeeps n m.state m'.state m.disk m'.disk h w made b) (sym is)
     (flush_answers n m.state m'.state m.disk m'.disk h w made r traced does)
+step n Truncate a m m' made h w ((r, is, does), _, traced) =
+    subst (λ (b : Answer). TruncateKeeps n m.state m'.state m.disk m'.disk h w made b) (sym is)
+    (truncate_answers n m.state m'.state m.disk m'.disk h w made r traced does)
 step n Reopen a m m' made h w ((r, is, does), _, _) =
     subst (λ (b : Answer). OpensLawfully b m'.state.image.memory h × Standing n m' (after_opening b h)) (sym is)
     (open_answers n m.state m'.state m.disk m'.disk h w made r does)

@@ -5,11 +5,13 @@ use Rattle.std.proofs.lemmas.List.{append_assoc, length-append, length-take-le, 
 use Rattle.device.specs.Disk.{Disk, Shown, Plate}
 use Rattle.device.specs.Meaning.{Quiet}
 use Rattle.device.specs.Trace.{Act, settled, Done, CutShort}
+use Rattle.journal.specs.Log.{log}
 use Rattle.journal.proofs.Places.{kept as in_log}
 use Rattle.durability.specs.Items.{Item, appending, put_in, ordinal_after}
 use Rattle.durability.specs.Promises.{BeforeItems}
 use Rattle.durability.specs.Standing.{Firm, OpensTo, Choice}
-use Rattle.durability.proofs.Appends.{appended, append_cut}
+use Rattle.durability.proofs.Growth.{Present}
+use Rattle.durability.proofs.Appends.{appended, appended_says, append_cut}
 use Rattle.recovery.specs.Opening.{Divides}
 use Rattle.image.specs.Cut.{PiecesLay, PiecesFit, PiecesNone}
 use Rattle.law.specs.Transactions.{Transaction, made_of, batch, AllProper}
@@ -82,6 +84,11 @@ module _ (lay : PiecesLay) (fit : PiecesFit) (none : PiecesNone) where
               (subst (λ (o : ℕ). Firm n e.shows low end o (λ i. put_in xs i (made_of (kept_of h) i))) (ordinal_batch lay fit none h.kept us all_proper) r.0),
           r.1,
         )
+
+    -- Then the log says what it said, and after that their records.
+    pub batch_says : Done d (writing_batch n low last h us) e
+        → ((s : ℕ) → low ≤ s → s ≤ last → log n e.shows s ≡ log n d.shows s) × Present low (log n e.shows) last (batch h.kept us)
+    batch_says done = appended_says n d e low last h.kept (made_of (kept_of h)) (batch h.kept us) items done
 
     -- Where power cuts that, the first of them are there, and nothing that is kept is lost.
     pub batch_cut : (o : ℕ) → CutShort d (writing_batch n low last h us) o e → Divides d.plate.sectors n → Safe n e (followed h us)

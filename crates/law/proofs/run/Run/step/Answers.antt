@@ -1,8 +1,8 @@
 -- Each call by its own relation.
-use Rattle.law.specs.declared.script.Call.TheVariants.{With, Read, Flush}
+use Rattle.law.specs.declared.script.Call.TheVariants.{With, Read, Flush, Truncate}
 use Rattle.law.specs.Events.{moment}
 use Rattle.law.specs.Run.{moment_of}
-use Rattle.law.proofs.Tracing.{stepped_as, stepped_read, stepped_flush}
+use Rattle.law.proofs.Tracing.{stepped_as, stepped_read, stepped_flush, stepped_truncate}
 use Rattle.law.proofs.run.Run.step.Goals as goal
 
 pub returns-in-With : goal.returns-in-With
@@ -30,3 +30,12 @@ returns-in-Flush g c =
     let e = g.D.Device.disk c.flush-answer.new.store.device in
     stepped_as c.args.call Flush (moment run.store.state d run.first run.second) (moment s' e run.first run.second) c.flush-answer.result c.in-Flush.is
     (stepped_flush run.store.state s' d e run.first run.second c.flush-answer.result c.flush-answer.ensures)
+
+pub returns-in-Truncate : goal.returns-in-Truncate
+returns-in-Truncate g c =
+    let run = c.args.self in
+    let d = g.D.Device.disk run.store.device in
+    let s' = c.truncate-answer.new.store.state in
+    let e = g.D.Device.disk c.truncate-answer.new.store.device in
+    stepped_as c.args.call Truncate (moment run.store.state d run.first run.second) (moment s' e run.first run.second) c.truncate-answer.result c.in-Truncate.is
+    (stepped_truncate run.store.state s' d e run.first run.second c.truncate-answer.result c.truncate-answer.ensures)
