@@ -3,6 +3,7 @@
 use Rattle.std.specs.Prelude.{◌≡◌, ℕ, ◌+◌, Bool, true, false, ◌⊎◌, List, [], ◌∷◌, Some, None, Ok, Err, Option, Result}
 use Rattle.device.specs.Disk.{Disk}
 use Rattle.device.specs.Trace.{Act}
+use Rattle.image.specs.Calls.{declared}
 use Rattle.transactions.specs.declared.fault.StoreFault.{StoreFault}
 use Rattle.transactions.specs.declared.state.State.{State}
 use Rattle.transactions.specs.declared.token.Token.{Token}
@@ -148,6 +149,7 @@ pub record Committed (c : Change) (flush : Bool) (b : Book) (a : Answer) (m m' :
   pub fits : first_fit (rows_of c b) ≡ None
   pub prepared : State
   pub prepares : Prepared m.state (edits_of c b) prepared
+  pub holds : HoldsBook prepared (book_after c b)
   pub result : Result (ℕ × ℕ) StoreFault
   pub made : List Act
   pub is : did ≡ Some (committing prepared m.disk flush result m'.state m'.disk made)
@@ -214,8 +216,12 @@ TakesPlace call a m m' b did =
     ((is_on m ≡ true) × HoldsBook m.state b × Works call b a m m' did)
     ⊎ ((is_on m ≡ false) × Sleeps call a m m' did)
 
+-- Between the calls of a ledger no transaction is open, so that nothing is declared.
+abbrev pub Closed : Moment → Type 0
+Closed m = is_on m ≡ true → declared m.state.image ≡ []
+
 abbrev pub Happens : Event → Type 0
-Happens e = TakesPlace e.call e.answer e.before e.after e.book e.did
+Happens e = TakesPlace e.call e.answer e.before e.after e.book e.did × Closed e.after
 
 -- The events follow one another, from one moment to another.
 abbrev pub Chain : Moment → List Event → Moment → Type 0

@@ -1,5 +1,5 @@
 -- What a run of a ledger's script does.
-use Rattle.std.specs.Prelude.{◌≡◌, ℕ, ◌+◌, min, Bool, true, List, [], ◌∷◌, length, take, drop, Some, None, Ok, Err, Result}
+use Rattle.std.specs.Prelude.{◌≡◌, ℕ, ◌+◌, min, Bool, true, List, [], ◌∷◌, length, take, drop, Some, None, Ok, Err, Option, Result}
 use Rattle.device.specs.Disk.{Disk}
 use Rattle.device.specs.Trace.{Act}
 use Rattle.transactions.specs.declared.state.State.{State}
@@ -7,13 +7,17 @@ use Rattle.transactions.specs.State.{Formatted}
 use Rattle.law.specs.Events as below
 use Rattle.law.specs.Law as law
 use Rattle.book.specs.declared.fault.LedgerFault.{LedgerFault}
-use Rattle.book.specs.Book.{new_book}
+use Rattle.book.specs.Book.{Book, new_book}
 use Rattle.book.specs.Edits.{make_edits}
 use Rattle.ledger.specs.Changes.{Prepared}
 use Rattle.ledger.specs.Calls.{HoldsBook, Makes}
 use Rattle.ledger_law.specs.declared.script.Call.{Call}
-use Rattle.ledger_law.specs.Events.{Answer, Moment, moment, Event, Below, committing, Chain, calls_of, answers_of}
+use Rattle.ledger_law.specs.Events.{Answer, Moment, moment, Event, Below, committing, TakesPlace, Closed, Chain, calls_of, answers_of}
 use Rattle.ledger_law.specs.Law.{Standing, AllLawful}
+
+-- One call of a script took place.
+abbrev pub Stepped : Call → Moment → Answer → Moment → Type 0
+Stepped call m a m' = ∥ ((b : Book) × (did : Option Below) × TakesPlace call a m m' b did × Closed m') ∥₁
 
 -- A ledger was made: the store was formatted, and the free chain was committed with flush, by this event below.
 pub record FromMake (d : Disk) (m : Moment) (did : Below) : Type 0 where
@@ -26,6 +30,7 @@ pub record FromMake (d : Disk) (m : Moment) (did : Below) : Type 0 where
   pub is : did ≡ committing prepared formatted true (Ok (1, 52)) m.state m.disk made
   pub happens : below.Happens did
   pub holds : HoldsBook m.state new_book
+  pub closed : Closed m
   pub fit : m.fit ≡ true
 
 -- What stands then: that one transaction, which issued nothing.
@@ -54,6 +59,6 @@ pub record LedgerRun (d : Disk) (calls : List Call) (answers : List Answer) (las
 -- and the law holds of them.
 abbrev pub Ran : Disk → List Call → List Answer → Result ℕ LedgerFault → List Answer → Disk → Type 0
 Ran d calls before (Ok count) after last =
-    (count ≡ min (length calls) (length before)) × LedgerRun d (take count calls) (take count after) last
+    (count ≡ min (length calls) (length before)) × ∥ LedgerRun d (take count calls) (take count after) last ∥₁
     × (drop count after ≡ drop count before)
 Ran d calls before (Err f) after last = ((fit : Bool) × (s : State) × Makes d (Err f) last fit s) × (after ≡ before)

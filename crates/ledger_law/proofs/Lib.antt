@@ -1,0 +1,5 @@
+-- Lemmas on runs of a ledger.
+pub mod Beyond
+pub mod Standing
+pub mod Steps
+pub mod Making
