@@ -1,5 +1,6 @@
 -- Lemmas on the book.
 pub mod Examples
+pub mod Contents
 pub mod Standing
 pub mod Places
 pub mod Chaining
@@ -10,4 +11,8 @@ pub mod Totals
 pub mod Sums
 pub mod Passing
 pub mod Beside
+pub mod Cutting
+pub mod Taking
+pub mod Finding
 pub mod Changes
+pub mod Unlinking

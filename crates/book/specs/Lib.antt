@@ -1,6 +1,7 @@
 -- What a ledger is, by the memory that holds it, and what its calls change in it.
 pub mod Fault
 pub mod Records
+pub mod Laws
 pub mod Layout
 pub mod Book
 pub mod Rows

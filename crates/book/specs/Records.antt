@@ -9,6 +9,15 @@ abbrev pub ReadAs : {X : Type 0} → (X → List ℕ) → (X → Type 0) → Lis
 ReadAs content fits bytes (Some x) = (content x ≡ bytes) × fits x
 ReadAs content fits bytes None = (x : _) → fits x → content x ≡ bytes → ⊥
 
+-- Every kind has 8 bytes, an account in 2, and zeros.
+abbrev pub laid : List ℕ → ℕ → List ℕ
+laid front account = front ++ (digits 2 account ++ replicate 10 0)
+
+-- The two that are laid out in these bytes, if they are such.
+abbrev pub Parted : List ℕ → Option (List ℕ × ℕ) → Type 0
+Parted bytes (Some (front, account)) = (laid front account ≡ bytes) × (length front ≡ 8) × (account < 2 ^ 16)
+Parted bytes None = (front : List ℕ) (account : ℕ) → length front ≡ 8 → laid front account ≡ bytes → ⊥
+
 -- A tag: its own 8 bytes, its account in 2, and zeros.
 abbrev pub tag_kind : ℕ
 tag_kind = 1
