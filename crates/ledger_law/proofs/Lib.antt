@@ -3,3 +3,5 @@ pub mod Beyond
 pub mod Standing
 pub mod Steps
 pub mod Making
+pub mod Changing
+pub mod Tracing
