@@ -5,3 +5,4 @@ pub mod Steps
 pub mod Making
 pub mod Changing
 pub mod Tracing
+pub mod Working

@@ -77,6 +77,11 @@ pub record Lawful (e : Event) (t : Standing) : Type 0 where
   pub opens : OnlyPower e.call e.answer
   pub store : LawfulBelow e.did t.history
 
+-- What stands after these events.
+abbrev pub standing : Standing → List Event → Standing
+standing t [] = t
+standing t (e ∷ es) = standing (after_event e t) es
+
 abbrev pub AllLawful : List Event → Standing → Type 0
 AllLawful [] t = Unit {0}
 AllLawful (e ∷ es) t = Lawful e t × AllLawful es (after_event e t)
