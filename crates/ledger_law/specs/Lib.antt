@@ -3,3 +3,4 @@ pub mod Events
 pub mod Law
 pub mod Keeping
 pub mod Run
+pub mod Whole
