@@ -7,6 +7,7 @@ pub mod Chaining
 pub mod Threads
 pub mod Keeping
 pub mod Putting
+pub mod Totals
 pub mod Sums
 pub mod Passing
 pub mod Beside

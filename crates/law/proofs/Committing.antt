@@ -70,7 +70,7 @@ undeclared (r ∷ rs) i e (inr h) = undeclared rs i (rest (cond (leb r.from i) (
     rest false c k = k
 
 -- the memory at commit is what its own transaction makes of the memory as at begin
-made_own : (s : State) (h : History) (i : ℕ) → get_or s.image.before i 0 ≡ made_of h.entered i → get_or s.image.memory i 0 ≡ made_of (h.entered ++ (own_transaction s ∷ [])) i
+pub made_own : (s : State) (h : History) (i : ℕ) → get_or s.image.before i 0 ≡ made_of h.entered i → get_or s.image.memory i 0 ≡ made_of (h.entered ++ (own_transaction s ∷ [])) i
 made_own s h i before =
     let t = own_transaction s in
     let test = is_declared (declared s.image) i in

@@ -35,12 +35,12 @@ so_far_begins start calls answers =
       rest = refl;
     }
 
-drop_set : {X : Type 0} (xs : List X) (i : ℕ) (x : X) → drop (suc i) (set xs i x) ≡ drop (suc i) xs
+pub drop_set : {X : Type 0} (xs : List X) (i : ℕ) (x : X) → drop (suc i) (set xs i x) ≡ drop (suc i) xs
 drop_set [] i x = refl
 drop_set (y ∷ ys) zero x = refl
 drop_set (y ∷ ys) (suc i) x = drop_set ys i x
 
-drop_less : {X : Type 0} (xs ys : List X) (i : ℕ) → drop i xs ≡ drop i ys → drop (suc i) xs ≡ drop (suc i) ys
+pub drop_less : {X : Type 0} (xs ys : List X) (i : ℕ) → drop i xs ≡ drop i ys → drop (suc i) xs ≡ drop (suc i) ys
 drop_less xs ys i h = sym (drop_one xs i) ∙ ap (λ zs. drop 1 zs) h ∙ drop_one ys i
   where
     drop_one : {X : Type 0} (xs : List X) (i : ℕ) → drop 1 (drop i xs) ≡ drop (suc i) xs
