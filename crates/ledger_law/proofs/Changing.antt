@@ -21,7 +21,7 @@ use Rattle.book.specs.Rows.{first_fit}
 use Rattle.book.specs.Edits.{Edit, after_edits}
 use Rattle.book.proofs.Changes.{issue_holds, move_holds, visit_holds, enrol_holds}
 use Rattle.book.proofs.Unlinking.{drop_holds, collect_holds}
-use Rattle.ledger.specs.Changes.{Prepared, Changes}
+use Rattle.changes.specs.Changes.{Prepared, Changes}
 use Rattle.ledger.specs.Calls.{HoldsBook, on, power_off, Asleep, Refused, Done, Undone, ChangesBook, OnBook}
 use Rattle.ledger_law.specs.declared.script.Change.{Change}
 use Rattle.ledger_law.specs.declared.script.Change.TheVariants.{Issue, Transfer, Visit, Enrol, DropTag, Collect}

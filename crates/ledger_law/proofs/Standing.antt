@@ -16,7 +16,7 @@ use Rattle.law.proofs.Standing.{rests, safe, on_stands, moved}
 use Rattle.book.specs.Layout.{byte_in}
 use Rattle.book.specs.Book.{Book, Holds}
 use Rattle.book.specs.Edits.{Edit}
-use Rattle.ledger.specs.Changes.{Prepared}
+use Rattle.changes.specs.Changes.{Prepared}
 use Rattle.ledger.specs.Calls.{HoldsBook}
 use Rattle.ledger_law.specs.Events.{Moment, is_on, Closed}
 use Rattle.ledger_law.specs.Law.{Standing, Conserved}

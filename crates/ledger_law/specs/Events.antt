@@ -17,7 +17,7 @@ use Rattle.book.specs.declared.records.Entry.{Entry}
 use Rattle.book.specs.Book.{Book}
 use Rattle.book.specs.Rows.{Row, first_fit, issue_rows, move_rows, visit_rows, enrol_rows, drop_rows, collect_rows}
 use Rattle.book.specs.Edits.{Edit, issue_edits, issued_to, move_edits, moved, visit_edits, visited, enrol_edits, enrolled, drop_edits, dropped, collect_edits, collected, front_of}
-use Rattle.ledger.specs.Changes.{Prepared}
+use Rattle.changes.specs.Changes.{Prepared}
 use Rattle.ledger.specs.Calls.{HoldsBook, on, power_off, Finds, Balances}
 use Rattle.ledger_law.specs.declared.script.Change.{Change}
 use Rattle.ledger_law.specs.declared.script.Change.TheVariants.{Issue, Transfer, Visit, Enrol, DropTag, Collect}

@@ -10,7 +10,7 @@ use Rattle.law.specs.Law as law
 use Rattle.book.specs.declared.fault.LedgerFault.{LedgerFault}
 use Rattle.book.specs.Book.{Book, new_book}
 use Rattle.book.specs.Edits.{make_edits}
-use Rattle.ledger.specs.Changes.{Prepared}
+use Rattle.changes.specs.Changes.{Prepared}
 use Rattle.ledger.specs.Calls.{HoldsBook, Makes}
 use Rattle.ledger.specs.declared.ledger.Ledger.{Ledger}
 use Rattle.ledger_law.specs.declared.script.Call.{Call}
