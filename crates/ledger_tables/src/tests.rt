@@ -217,34 +217,29 @@ fn refusals(rt: HostRuntime) -> Result<(), Fail> {
     )
 }
 
-// Tags of this account up to the last cell. They differ in their first byte.
-fn fill(table: &mut Vec<Row>, account: u16) -> Result<(), Fail> {
-    // Numbers of cells, which index nothing.
-    for cell in 1..=200u8 {
-        let tag = [cell, 0, 0, 0, 0, 0, 0, 0];
-        table.push(kept(Change::Enrol(tag, account), u64::from(cell) + 2))?;
-    }
-    Ok(())
+// A tag with this first byte.
+fn tag(first: u8) -> [u8; 8] {
+    [first, 0, 0, 0, 0, 0, 0, 0]
 }
 
 // All 200 cells hold tags. The log has room for that if it is of 1,024 sectors.
 #[test]
 fn a_full_directory(rt: HostRuntime) -> Result<(), Fail> {
     let mut table = vec![in rt.alloc(); kept(Change::Issue(1, 20), 2)]?;
-    fill(&mut table, 1)?;
+    // First bytes of tags, which index nothing.
+    for first in 1..=200u8 {
+        table.push(kept(Change::Enrol(tag(first), 1), u64::from(first) + 2))?;
+    }
     table.extend_from_slice(&[
         refused(Change::Enrol(FIRST, 64), LedgerFault::NoCell(64)),
         refused(Change::Transfer(1, 2, 21), LedgerFault::Short(20)),
         refused(Change::Transfer(1, 2, 20), LedgerFault::NoCell(1)),
-        refused(
-            Change::Visit([7, 0, 0, 0, 0, 0, 0, 0], 2),
-            LedgerFault::NoCell(1),
-        ),
+        refused(Change::Visit(tag(7), 2), LedgerFault::NoCell(1)),
         is(Call::Reopen, Told::Pair(202, 0)),
-        owned([1, 0, 0, 0, 0, 0, 0, 0], Some(1)),
-        owned([200, 0, 0, 0, 0, 0, 0, 0], Some(1)),
+        owned(tag(1), Some(1)),
+        owned(tag(200), Some(1)),
         // The cell that is freed is the one that is taken.
-        kept(Change::DropTag([9, 0, 0, 0, 0, 0, 0, 0]), 203),
+        kept(Change::DropTag(tag(9)), 203),
         kept(Change::Transfer(1, 2, 20), 204),
         refused(Change::Enrol(FIRST, 64), LedgerFault::NoCell(64)),
         collects(1, 205, 20, 2),
@@ -257,21 +252,18 @@ fn a_full_directory(rt: HostRuntime) -> Result<(), Fail> {
     Ok(())
 }
 
-// An issue is of two records, the total's and the balance's, here on one page.
-fn full_spool() -> LedgerFault {
-    LedgerFault::Store(StoreFault::SpoolFull(2))
-}
-
-// Row 16: the spool has room for 32 records. The ledger's own refusals come first, and the ledger stays on.
+// Row 16: the spool has room for 32 records, and an issue is of two: the total's and the balance's. The ledger's own
+// refusals come first, and the ledger stays on.
 #[test]
 fn a_full_spool(rt: HostRuntime) -> Result<(), Fail> {
+    let full = LedgerFault::Store(StoreFault::SpoolFull(2));
     let mut table = Vec::new(rt.alloc());
     for ordinal in 2..18u64 {
         table.push(is(Call::Spool(Change::Issue(1, 1)), Told::Ordinal(ordinal)))?;
     }
     table.extend_from_slice(&[
         no(Call::Spool(Change::Issue(1, 0)), LedgerFault::Nothing(1)),
-        no(Call::Spool(Change::Issue(1, 1)), full_spool()),
+        no(Call::Spool(Change::Issue(1, 1)), full),
         has(1, 16),
         // What is flushed needs no room in it.
         kept(Change::Issue(1, 1), 18),
@@ -350,7 +342,8 @@ fn ends_of_serials(rt: HostRuntime) -> Result<(), Fail> {
     Ok(())
 }
 
-// Row 17: a store that is no ledger opens as one no more than a card without a log. The ledger is off then.
+// Row 17: a card whose store is no ledger is refused, as is one without a log. The ledger is off then, and the store
+// stays as it was.
 #[test]
 fn no_ledgers(rt: HostRuntime) -> Result<(), Fail> {
     let mut card = Card::blank(rt.alloc(), 224, 1)?;
@@ -366,6 +359,9 @@ fn no_ledgers(rt: HostRuntime) -> Result<(), Fail> {
     let _ = holds_old(&rt, card.device()?, Err(no_log), &table);
     let (store, formatted) = Store::format(card.device()?);
     assert_eq!(rt; formatted, Ok(()));
-    let _ = holds_old(&rt, store.close(), Err(LedgerFault::NotLedger), &table);
+    let device = holds_old(&rt, store.close(), Err(LedgerFault::NotLedger), &table);
+    let (store, opened) = Store::open(device);
+    assert_eq!(rt; opened, Ok((0, 0)));
+    let _ = store.close();
     Ok(())
 }
