@@ -30,8 +30,8 @@ fn hold_owners<D: Device>(ledger: &Ledger<D>, owners: &[Option<u16>; 3]) -> Resu
     Ok(())
 }
 
-// Collects all entries of an account, and holds them to what they must be. The ordinals go on from the last one, and the
-// new last one is answered.
+// Collects all entries of an account, and holds them to what they must be. The ordinals go on from the last one, and
+// the new last one is answered.
 fn collect_all<D: Device>(
     ledger: &mut Ledger<D>,
     last: u64,

@@ -49,8 +49,8 @@ impl Played {
         Ok(())
     }
 
-    // Makes a step. All that was entered is kept after it, unless it is a change that waits.
-    fn make<D: Device>(&mut self, ledger: &mut Ledger<D>, step: Step) -> Result<(), Trouble> {
+    // Plays a step. All that was entered is kept after it, unless it is a change that waits.
+    fn play_step<D: Device>(&mut self, ledger: &mut Ledger<D>, step: Step) -> Result<(), Trouble> {
         match step {
             Step::Keep(what) => self.enter(ledger, what, true)?,
             Step::Spool(what) => return self.enter(ledger, what, false),
@@ -72,7 +72,7 @@ fn work<D: Device + Drop>(device: D, played: &mut Played) -> Result<(), Trouble>
     made?;
     played.kept = played.entered;
     for step in &SCRIPT {
-        played.make(&mut ledger, *step)?;
+        played.play_step(&mut ledger, *step)?;
     }
     Ok(())
 }

@@ -83,8 +83,8 @@ pub static SCRIPT: [Step; 18] = [
     Step::Spool(Change::Issue(GUARD, 9)),
 ];
 
-// What stands: the balances of the three accounts, the account of each of the three tags, and the entries of each of the
-// three accounts, the front one first. Every other account has nothing.
+// What stands: the balances of the three accounts, the account of each of the three tags, and the entries of each of
+// the three accounts, the front one first. Every other account has nothing.
 #[derive(Clone, Copy)]
 pub struct State(
     pub [u64; 3],
