@@ -1,6 +1,6 @@
 -- A tag's bucket, and a balance of 20.
-use Rattle.std.proofs.Common.{◌≡◌, ℕ, ◌<◌, ◌≤◌, Bool, true, false, cond, not, ◌&&◌, eqb, leb, ltb, ◌≢◌, List, [], ◌∷◌, Some, None, Ok, Err, Option, Result, sym, refl, ap, ◌∙◌, subst, inl, inr, arith}
-use Rattle.std.proofs.lemmas.Bool.{both_ways, le-leb, le-ltb, lt-ltb}
+use Rattle.std.proofs.Common.{◌≡◌, ℕ, ◌<◌, ◌≤◌, Bool, true, false, cond, not, ◌&&◌, eqb, leb, ltb, ◌≢◌, List, [], ◌∷◌, Some, None, Ok, Err, Option, Result, sym, refl, ap, ◌∙◌, subst, inl, inr, ⊎_elim, arith}
+use Rattle.std.proofs.lemmas.Bool.{both_ways, cases_Bool, eqb-true, le-leb, le-ltb, lt-ltb}
 use Rattle.device.specs.Disk.{Disk}
 use Rattle.transactions.specs.declared.fault.StoreFault.{StoreFault}
 use Rattle.transactions.specs.declared.state.State.{State}
@@ -20,7 +20,7 @@ is_one : (a : ℕ) → IsAccount a → not (is_account a) ≡ false
 is_one a (low, high) = rw (le-leb 1 a low, le-leb a 64 high) refl
 
 apart : (a b : ℕ) → a ≢ b → eqb a b ≡ false
-apart a b two = ?
+apart a b two = ⊎_elim (λ (e : eqb a b ≡ true). absurd (two (eqb-true a b e))) (λ (e : eqb a b ≡ false). e) (cases_Bool (eqb a b))
 
 has_cell : (ns : List ℕ) → ns ≢ [] → is_empty ns ≡ false
 has_cell [] some = absurd (some refl)
