@@ -1,16 +1,16 @@
 -- What the free chain, a bucket and an account's chain of a ledger are for a walk.
-use Rattle.std.proofs.Common.{◌≡◌, ℕ, ◌+◌, ◌<◌, ◌≤◌, ◌≢◌, Bool, true, false, cond, List, [], ◌∷◌, length, map, bytes_eq, Some, None, Option, refl, sym, ap, ◌∙◌, subst, arith}
+use Rattle.std.proofs.Common.{◌≡◌, ℕ, ◌<◌, ◌≤◌, ◌≢◌, Bool, true, false, cond, List, [], ◌∷◌, length, map, bytes_eq, Some, None, Option, refl, sym, ap, ◌∙◌, subst, arith}
 use Rattle.record.specs.Fields.{field}
 use Rattle.book.specs.declared.records.Tag.{Tag}
 use Rattle.book.specs.declared.records.Entry.{Entry}
 use Rattle.book.specs.Records.{bucket_of, tag_kind, tag_content, TagFits, entry_kind, entry_content, EntryFits}
 use Rattle.book.specs.Layout.{byte_in, head_at, bucket_chain, cell_at, Chain, first_of}
-use Rattle.book.specs.Book.{Book, Holds, At, IsAccount, GoodTags, GoodEntries, free_cell, tag_cell, entry_cell, cells_of}
-use Rattle.book.specs.Rows.{is_empty, account_in, account_of}
-use Rattle.book.specs.Edits.{Place, place_in, place_of, head_or_0, rest_of}
+use Rattle.book.specs.Book.{Book, Holds, At, IsAccount, GoodTags, GoodEntries, free_cell, tag_cell}
+use Rattle.book.specs.Rows.{is_empty, account_in}
+use Rattle.book.specs.Edits.{Place, place_in, head_or_0, rest_of}
 use Rattle.book.proofs.Threads.{cells_tags, cells_account}
 use Rattle.plans.specs.declared.found.Found.{Found}
-use Rattle.plans.specs.Walks.{cells_with, Leads, AllFit, Placed, first_such, placed, seen, Sought}
+use Rattle.plans.specs.Walks.{cells_with, Leads, AllFit, Placed, first_such, seen, Sought}
 use Rattle.plans.proofs.Standing.{stands_index}
 use Rattle.plans.proofs.Following.{same_first}
 

@@ -1,10 +1,10 @@
 -- What stands in the memory is what is read there.
-use Rattle.std.proofs.Common.{◌≡◌, ℕ, zero, suc, ◌+◌, ◌*◌, ◌/◌, ◌%◌, ◌^◌, ◌<◌, ◌≤◌, List, [], ◌∷◌, length, get_or, take, drop, map, refl, sym, ap, ◌∙◌, inl, inr, ⊎_elim, ◌⊎◌, arith, add-one, add-zero, drop-cons}
+use Rattle.std.proofs.Common.{◌≡◌, ℕ, zero, suc, ◌+◌, ◌/◌, ◌^◌, ◌<◌, ◌≤◌, List, [], ◌∷◌, length, get_or, take, drop, refl, sym, ap, ◌∙◌, inl, inr, ⊎_elim, ◌⊎◌, arith, add-one, add-zero, drop-cons}
 use Rattle.std.proofs.lemmas.Bool.{cases_lt}
 use Rattle.record.specs.Fields.{value, digits, field}
 use Rattle.record.proofs.Numbers.{value_digits}
 use Rattle.book.specs.Layout.{byte_in, Stands, balance_at, Cell, Chain, first_of}
-use Rattle.book.specs.Book.{Book, IsAccount, Money, Holds, sum_to}
+use Rattle.book.specs.Book.{Book, IsAccount, Holds, sum_to}
 
 pub stands_rest : (f : ℕ → ℕ) (a x : ℕ) (xs : List ℕ) → Stands f a (x ∷ xs) → Stands f (a + 1) xs
 stands_rest f a x xs h i k =

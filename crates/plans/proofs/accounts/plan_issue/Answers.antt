@@ -1,5 +1,5 @@
 -- In a ledger the total and the balance are those that are read.
-use Rattle.std.proofs.Common.{◌≡◌, ◌+◌, ◌∷◌, [], ◌∙◌, sym, ap, arith}
+use Rattle.std.proofs.Common.{◌≡◌, ◌+◌, ◌∷◌, [], ◌∙◌, ap, arith}
 use Rattle.std.proofs.lemmas.Result.{err_from_is_err_and}
 use Rattle.book.specs.Rows.{no_account, nothing, too_much}
 use Rattle.plans.proofs.Standing.{held_total, held_balance, balance_part}

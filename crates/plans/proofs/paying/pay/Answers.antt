@@ -1,5 +1,5 @@
 -- In a ledger the balances and the free cell are those that are read, and a balance has room for what is paid.
-use Rattle.std.proofs.Common.{◌≡◌, ◌+◌, ◌-◌, [], ◌∷◌, ◌∙◌, ap, arith}
+use Rattle.std.proofs.Common.{◌≡◌, ◌+◌, [], ◌∷◌, ◌∙◌, ap, arith}
 use Rattle.std.proofs.lemmas.Result.{err_from_is_err_and}
 use Rattle.book.specs.Records.{entry_kind, entry_content}
 use Rattle.book.specs.Rows.{same, nothing, short, no_cell}
