@@ -10,3 +10,9 @@ pub mod Putting
 pub mod Sums
 pub mod Passing
 pub mod Beside
+pub mod Cutting
+pub mod Taking
+pub mod Finding
+pub mod Changes
+pub mod Unlinking
+pub mod Making
