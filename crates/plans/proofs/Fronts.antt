@@ -9,6 +9,7 @@ use Rattle.book.specs.Book.{Book, Holds, At, IsAccount, GoodTags, GoodEntries, f
 use Rattle.book.specs.Rows.{is_empty, account_in}
 use Rattle.book.specs.Edits.{Place, place_in, head_or_0, rest_of}
 use Rattle.book.proofs.Threads.{cells_tags, cells_account}
+use Rattle.book.proofs.Beside.{first_free}
 use Rattle.plans.specs.declared.found.Found.{Found}
 use Rattle.plans.specs.Walks.{cells_with, Leads, AllFit, Placed, first_such, seen, Sought}
 use Rattle.plans.proofs.Standing.{stands_index}
@@ -25,10 +26,6 @@ module _ (m : List ℕ) (whole : length m ≡ 6144) where
   pub free_inside : (ns : List ℕ) → Chain (byte_in m) 8 (map free_cell ns) → field 8 2 m ≤ 200
   free_inside [] h = let is = stands_index m 8 [] h (omega arith) in omega arith
   free_inside (n ∷ ns) h = let is = stands_index m 8 (map free_cell (n ∷ ns)) h (omega arith) in omega (arith, h.1.1)
-
-  first_free : (ns : List ℕ) → first_of (map free_cell ns) ≡ head_or_0 ns
-  first_free [] = refl
-  first_free (n ∷ ns) = refl
 
   pub some_free : (ns : List ℕ) → Chain (byte_in m) 8 (map free_cell ns) → field 8 2 m ≢ 0
       → (is_empty ns ≡ false) × (field 8 2 m ≡ head_or_0 ns) × (field (cell_at (field 8 2 m)) 2 m ≡ head_or_0 (rest_of ns))
