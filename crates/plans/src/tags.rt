@@ -1,9 +1,9 @@
 // Tags: finding one, and planning to enrol and to drop one.
-ghost use Rattle.std.specs.Prelude.{◌≡◌, [], ◌≤◌};
+ghost use Rattle.std.specs.Prelude.{◌≡◌};
 ghost use Rattle.record.specs.Fields.{field};
 ghost use Rattle.book.specs.Layout.{byte_in, head_at, bucket_chain};
 ghost use Rattle.book.specs.Records.{bucket_of, tag_kind, tag_content};
-ghost use Rattle.book.specs.Book.{Book, Holds, IsAccount};
+ghost use Rattle.book.specs.Book.{Book, Holds};
 ghost use Rattle.book.specs.Rows.{account_of, enrol_rows, drop_rows, present};
 ghost use Rattle.book.specs.Edits.{tag, enrol_edits, drop_edits};
 ghost use Rattle.plans.specs.Plans.{Passes, Planned, edits_of};

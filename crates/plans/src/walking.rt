@@ -1,5 +1,5 @@
 // Walks along a chain: for every kind of record, and over any memory, in which a chain might have no end.
-ghost use Rattle.std.specs.Prelude.{◌≡◌, ℕ, ◌+◌, ◌<◌, ◌≤◌, Bool, true, List, map};
+ghost use Rattle.std.specs.Prelude.{◌≡◌, ◌+◌, ◌≤◌, Bool, true, List};
 ghost use Rattle.book.specs.Layout.{byte_in};
 ghost use Rattle.book.specs.Book.{At, Book, Holds, IsAccount};
 ghost use Rattle.plans.specs.Walks.{Leads, first_such, seen, Frees, Sought, Fronted};
