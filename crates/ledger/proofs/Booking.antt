@@ -1,9 +1,8 @@
 -- A call that changes the book, by what was planned and what was made of it.
-use Rattle.std.proofs.Common.{◌≡◌, ℕ, Bool, true, false, ◌⊎◌, List, [], None, Some, Ok, Err, Result, sym, refl, ap, ◌∙◌, subst, inl, inr}
+use Rattle.std.proofs.Common.{◌≡◌, ℕ, Bool, true, List, [], None, Ok, Err, Result, sym, subst, inr}
 use mathlib.Core.Logic.{∥∥₁_map}
 use Rattle.device.specs.Disk.{Disk}
 use Rattle.image.specs.Calls.{declared}
-use Rattle.transactions.specs.declared.fault.StoreFault.{StoreFault}
 use Rattle.transactions.specs.declared.state.State.{State}
 use Rattle.book.specs.declared.fault.LedgerFault.{LedgerFault}
 use Rattle.book.specs.Layout.{byte_in}
@@ -17,7 +16,7 @@ use Rattle.plans.specs.Plans.{edits_of, Planned, Collected}
 use Rattle.changes.specs.Changes.{Changes}
 use Rattle.ledger.specs.Calls.{HoldsBook, on, ChangesBook, OnBook, Collects}
 use Rattle.ledger.specs.Steps.{Sound, ChangesTo}
-use Rattle.ledger.proofs.Standing.{Left, done_changes, undone_leaves, holds_after, holds_same, is_on}
+use Rattle.ledger.proofs.Standing.{done_changes, undone_leaves, holds_after, holds_same, is_on}
 
 -- A change that takes each book to the next one.
 abbrev pub Lawful : (Book → List Row) → (Book → List Edit) → (Book → Book) → Type 0
@@ -51,11 +50,12 @@ pub on_book : (rows : Book → List Row) (xs : Book → List Edit) (after : Book
     → Lawful rows xs after → Sound fit s → Seen fit s m → PlannedFor rows xs m (Ok plan) → ChangesTo s d (edits_of plan) flush r s' e
     → OnBook rows xs after fit s d flush r s' e
 on_book rows xs after fit s s' d e m plan flush r law sound (awake, same) plans changes =
-    inr
-    (awake,
-    λ b h.
-    let p = plans b (seen_book s m b same h) in
-    book_changes (rows b) (xs b) (after b) s s' d e plan flush r (sound.clean awake) (law (byte_in s.image.memory) b h p.0) p changes)
+    inr (
+      awake,
+      λ b h.
+          let p = plans b (seen_book s m b same h) in
+          book_changes (rows b) (xs b) (after b) s s' d e plan flush r (sound.clean awake) (law (byte_in s.image.memory) b h p.0) p changes,
+    )
 
 -- and how the ledger stands after it
 pub still_sound : (rows : Book → List Row) (xs : Book → List Edit) (after : Book → Book) (fit : Bool) (s s' : State) (d e : Disk) (m : List ℕ) (plan : Plan) (flush : Bool) (r : Result ℕ LedgerFault)

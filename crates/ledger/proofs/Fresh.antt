@@ -1,5 +1,5 @@
 -- A new ledger: the cells of a formatted store are linked by 52 records, and none of the store's rows fits.
-use Rattle.std.proofs.Common.{◌≡◌, ℕ, ◌+◌, ◌-◌, ◌^◌, ◌<◌, ◌≤◌, Bool, true, false, cond, ltb, ◌⊎◌, List, [], ◌∷◌, length, get_or, replicate, None, Some, Ok, Err, Result, sym, refl, ap, ◌∙◌, subst, inl, inr, ⊎_elim, arith}
+use Rattle.std.proofs.Common.{◌≡◌, ℕ, ◌+◌, ◌-◌, ◌<◌, ◌≤◌, true, false, List, [], ◌∷◌, length, get_or, replicate, None, Some, Ok, Err, Result, sym, refl, ap, ◌∙◌, subst, inl, inr, ⊎_elim, arith}
 use Rattle.std.proofs.Math.Path.{fun_ext}
 use Rattle.std.specs.Result.{is_ok}
 use Rattle.std.proofs.lemmas.Bool.{le-ltb, cases_lt}
@@ -19,7 +19,7 @@ use Rattle.transactions.specs.State.{Fresh, Formatted, own}
 use Rattle.transactions.proofs.Loops.{length_parts}
 use Rattle.record.specs.Fields.{digits}
 use Rattle.book.specs.Layout.{byte_in}
-use Rattle.book.specs.Edits.{free_chain, make_edits, declaring, after_edits}
+use Rattle.book.specs.Edits.{make_edits, declaring, after_edits}
 use Rattle.book.proofs.Making.{free_chain_length, make_holds}
 use Rattle.changes.specs.Changes.{Prepared, Changes}
 use Rattle.changes.proofs.Putting.{some_none}
@@ -101,34 +101,40 @@ new_holds n new s m e x fresh ch =
 pub makes : (d m e : Disk) (new s : State) (formatted : Result (Unit {0}) StoreFault) (r : Result (Unit {0}) LedgerFault)
     → Formatted d formatted m new → Links formatted new m r s e → Makes d r e (is_ok r) s
 makes d m e new s (Err f) r format (is, state, device) =
-    subst (λ (x : Result (Unit {0}) LedgerFault). Makes d x e (is_ok x) s) (sym is)
-    (refl, inl (record {
-      fault = f;
-      is = refl;
-      format = subst (λ (t : State). Formatted d (Err f) e t) (sym state) (subst (λ (k : Disk). Formatted d (Err f) k new) (sym device) format);
-    }))
+    subst (λ (x : Result (Unit {0}) LedgerFault). Makes d x e (is_ok x) s) (sym is) (
+      refl,
+      inl (record {
+        fault = f;
+        is = refl;
+        format = subst (λ (t : State). Formatted d (Err f) e t) (sym state) (subst (λ (k : Disk). Formatted d (Err f) k new) (sym device) format);
+      }),
+    )
 makes d m e new s (Ok u) (Ok v) (n, formats, fresh) (x, inl (f, fits, refused, state, device)) = absurd (may_begin new f fresh.on fresh.idle.free fits)
 makes d m e new s (Ok u) (Ok v) (n, formats, fresh) (x, inr (fits, change)) =
-    let ch = change fresh.idle.clean in
-    (refl, record {
-      new = new;
-      formatted = m;
-      format = (n, formats, fresh);
-      changes = subst (λ (y : ℕ × ℕ). Changes new m make_edits true (Ok y) s e) (make_answer n new s m e x fresh ch) ch;
-      holds = new_holds n new s m e x fresh ch;
-    })
+    let ch = change fresh.idle.clean in (
+      refl,
+      record {
+        new = new;
+        formatted = m;
+        format = (n, formats, fresh);
+        changes = subst (λ (y : ℕ × ℕ). Changes new m make_edits true (Ok y) s e) (make_answer n new s m e x fresh ch) ch;
+        holds = new_holds n new s m e x fresh ch;
+      },
+    )
 makes d m e new s (Ok u) (Err f) (n, formats, fresh) (fault, is, inl (g, fits, refused, state, device)) = absurd (may_begin new g fresh.on fresh.idle.free fits)
 makes d m e new s (Ok u) (Err f) (n, formats, fresh) (fault, is, inr (fits, change)) =
-    let ch = change fresh.idle.clean in
-    (refl, inr (record {
-      new = new;
-      formatted = m;
-      format = (n, formats, fresh);
-      fault = fault;
-      is = is;
-      power = ap number is ∙ make_power n new s m e fault fresh ch;
-      changes = ch;
-    }))
+    let ch = change fresh.idle.clean in (
+      refl,
+      inr (record {
+        new = new;
+        formatted = m;
+        format = (n, formats, fresh);
+        fault = fault;
+        is = is;
+        power = ap number is ∙ make_power n new s m e fault fresh ch;
+        changes = ch;
+      }),
+    )
 
 pub make_stands : (d m e : Disk) (new s : State) (formatted : Result (Unit {0}) StoreFault) (r : Result (Unit {0}) LedgerFault)
     → Formatted d formatted m new → Links formatted new m r s e → Sound (is_ok r) s

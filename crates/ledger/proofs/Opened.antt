@@ -1,12 +1,11 @@
 -- An opening of a ledger, by the store's and by what its memory is.
-use Rattle.std.proofs.Common.{◌≡◌, ℕ, Bool, true, false, Ok, Err, Result, sym, refl, subst, inl, inr}
+use Rattle.std.proofs.Common.{ℕ, false, Ok, Err, Result, sym, refl, subst, inl, inr}
 use Rattle.std.specs.Result.{is_ok}
 use Rattle.device.specs.Disk.{Disk}
 use Rattle.transactions.specs.declared.fault.StoreFault.{StoreFault}
 use Rattle.transactions.specs.declared.state.State.{State}
 use Rattle.transactions.specs.State.{Opened}
 use Rattle.book.specs.declared.fault.LedgerFault.{LedgerFault}
-use Rattle.book.specs.declared.fault.LedgerFault.TheVariants.{Store}
 use Rattle.ledger.specs.Calls.{OpensLedger}
 use Rattle.ledger.specs.Steps.{Sound, Checks}
 use Rattle.ledger.proofs.Standing.{off_stands}

@@ -1,5 +1,5 @@
 -- What each call of a ledger answers and leaves, on every way out.
-use Rattle.std.specs.Prelude.{◌≡◌, ℕ, ◌+◌, Bool, true, false, not, ◌&&◌, ◌⊎◌, List, [], ◌∷◌, Some, None, Ok, Err, Option, Result}
+use Rattle.std.specs.Prelude.{◌≡◌, ℕ, Bool, true, false, ◌&&◌, ◌⊎◌, List, Some, None, Ok, Err, Option, Result}
 use Rattle.device.specs.Disk.{Disk}
 use Rattle.device.specs.declared.fault.DeviceFault.TheVariants.{Power}
 use Rattle.transactions.specs.declared.fault.StoreFault.{StoreFault}

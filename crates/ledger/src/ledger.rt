@@ -58,7 +58,13 @@ impl<D: Device> Ledger<D> {
     }
 
     // Pays from one account to another, and puts an entry of that at the front of the payer's.
-    pub fn transfer(&mut self, payer: u16, payee: u16, amount: u64, flush: bool) -> Result<u64, LedgerFault>
+    pub fn transfer(
+        &mut self,
+        payer: u16,
+        payee: u16,
+        amount: u64,
+        flush: bool,
+    ) -> Result<u64, LedgerFault>
         ensures moves { Moves payer payee amount self.old.fit self.old.store.state (D.Device.disk self.old.store.device) flush result self.new.store.state (D.Device.disk self.new.store.device) }
         ensures fit { self.new.fit ≡ self.old.fit }
     {
