@@ -9,8 +9,6 @@ use Rattle.book.specs.declared.fault.LedgerFault.{LedgerFault}
 use Rattle.book.specs.declared.fault.LedgerFault.TheVariants.{Store, NotLedger}
 use Rattle.book.specs.Book.{Book}
 use Rattle.book.specs.Edits.{Edit, make_edits}
-use Rattle.plans.specs.declared.plan.Plan.{Plan}
-use Rattle.plans.specs.Plans.{edits_of}
 use Rattle.changes.specs.Changes.{Changes}
 use Rattle.changes.specs.Steps.{Performs}
 use Rattle.ledger.specs.Calls.{HoldsBook, on, power_off}
@@ -31,11 +29,6 @@ Looks fit s (Err f) = (on fit s ≡ false) × (f ≡ power_off)
 abbrev pub ChangesTo : State → Disk → List Edit → Bool → Result ℕ LedgerFault → State → Disk → Type 0
 ChangesTo s d xs flush (Ok o) s' e = (records : ℕ) × Changes s d xs flush (Ok (o, records)) s' e
 ChangesTo s d xs flush (Err f) s' e = (fault : StoreFault) × (f ≡ Store fault) × Changes s d xs flush (Err fault) s' e
-
--- What was planned is made; a refusal stays one, and nothing moves.
-abbrev pub CarriesOut : Result Plan LedgerFault → State → Disk → Bool → Result ℕ LedgerFault → State → Disk → Type 0
-CarriesOut (Ok plan) s d flush r s' e = ChangesTo s d (edits_of plan) flush r s' e
-CarriesOut (Err f) s d flush r s' e = (r ≡ Err f) × (s' ≡ s) × (e ≡ d)
 
 -- Where the format succeeded, the cells are linked; else its refusal is the answer, and nothing moves.
 abbrev pub Links : Result (Unit {0}) StoreFault → State → Disk → Result (Unit {0}) LedgerFault → State → Disk → Type 0

@@ -1,13 +1,13 @@
 // A ledger over a device, and its calls.
 ghost use Rattle.std.specs.Prelude.{◌≡◌};
-ghost use Rattle.ledger.specs.Calls.{Makes, OpensLedger, Issues, Balances, FlushesLedger, TruncatesLedger};
+ghost use Rattle.ledger.specs.Calls.{Makes, OpensLedger, Issues, Moves, Visits, Enrols, Drops, Collects, Finds, Balances, FlushesLedger, TruncatesLedger};
 ghost use Rattle.ledger.specs.Steps.{Sound};
 
-use crate::changing::issue;
+use crate::changing::{collect, drop_tag, enrol, issue, transfer, visit};
 use crate::flushing::{flush, truncate};
-use crate::looking::balance;
+use crate::looking::{balance, find};
 use crate::making::{make, open};
-use book::LedgerFault;
+use book::{Entry, LedgerFault};
 use device::Device;
 use transactions::Store;
 
@@ -55,6 +55,53 @@ impl<D: Device> Ledger<D> {
         ensures fit { self.new.fit ≡ self.old.fit }
     {
         issue(&mut self.store, self.fit, account, amount, flush)
+    }
+
+    // Pays from one account to another, and puts an entry of that at the front of the payer's.
+    pub fn transfer(&mut self, payer: u16, payee: u16, amount: u64, flush: bool) -> Result<u64, LedgerFault>
+        ensures moves { Moves payer payee amount self.old.fit self.old.store.state (D.Device.disk self.old.store.device) flush result self.new.store.state (D.Device.disk self.new.store.device) }
+        ensures fit { self.new.fit ≡ self.old.fit }
+    {
+        transfer(&mut self.store, self.fit, payer, payee, amount, flush)
+    }
+
+    // Pays 1 from the account of a tag to a guard's.
+    pub fn visit(&mut self, id: &[u8; 8], guard: u16, flush: bool) -> Result<u64, LedgerFault>
+        ensures visits { Visits id.now guard self.old.fit self.old.store.state (D.Device.disk self.old.store.device) flush result self.new.store.state (D.Device.disk self.new.store.device) }
+        ensures fit { self.new.fit ≡ self.old.fit }
+    {
+        visit(&mut self.store, self.fit, id, guard, flush)
+    }
+
+    // Puts a tag of this account into its bucket.
+    pub fn enrol(&mut self, id: &[u8; 8], account: u16, flush: bool) -> Result<u64, LedgerFault>
+        ensures enrols { Enrols id.now account self.old.fit self.old.store.state (D.Device.disk self.old.store.device) flush result self.new.store.state (D.Device.disk self.new.store.device) }
+        ensures fit { self.new.fit ≡ self.old.fit }
+    {
+        enrol(&mut self.store, self.fit, id, account, flush)
+    }
+
+    // Takes a tag out of its bucket. Its name keeps clear of the trait that lets a value go.
+    pub fn drop_tag(&mut self, id: &[u8; 8], flush: bool) -> Result<u64, LedgerFault>
+        ensures drops { Drops id.now self.old.fit self.old.store.state (D.Device.disk self.old.store.device) flush result self.new.store.state (D.Device.disk self.new.store.device) }
+        ensures fit { self.new.fit ≡ self.old.fit }
+    {
+        drop_tag(&mut self.store, self.fit, id, flush)
+    }
+
+    // Takes an account's front entry off, and answers it too.
+    pub fn collect(&mut self, account: u16, flush: bool) -> Result<(u64, Entry), LedgerFault>
+        ensures collects { Collects account self.old.fit self.old.store.state (D.Device.disk self.old.store.device) flush result self.new.store.state (D.Device.disk self.new.store.device) }
+        ensures fit { self.new.fit ≡ self.old.fit }
+    {
+        collect(&mut self.store, self.fit, account, flush)
+    }
+
+    // The account of a tag, if it is there.
+    pub fn find(&self, id: &[u8; 8]) -> Result<Option<u16>, LedgerFault>
+        ensures { Finds id.now self.now.fit self.now.store.state result }
+    {
+        find(&self.store, self.fit, id)
     }
 
     // The balance of an account.

@@ -1,10 +1,10 @@
 // Looks at the memory of a ledger, which change nothing.
-ghost use Rattle.ledger.specs.Calls.{Balances};
+ghost use Rattle.ledger.specs.Calls.{Balances, Finds};
 ghost use Rattle.ledger.specs.Steps.{Sound, Looks};
 
 use book::LedgerFault;
 use device::{Device, DeviceFault};
-use plans::balance_of;
+use plans::{balance_of, find_tag};
 use transactions::{MEMORY, Store, StoreFault};
 
 // Lends the memory of a ledger that is on.
@@ -25,4 +25,14 @@ pub(crate) fn balance<D: Device>(
     ensures { Balances account fit store.now.state result }
 {
     balance_of(look(store, fit)?, account)
+}
+
+pub(crate) fn find<D: Device>(
+    store: &Store<D>,
+    fit: bool,
+    id: &[u8; 8],
+) -> Result<Option<u16>, LedgerFault>
+    ensures { Finds id.now fit store.now.state result }
+{
+    Ok(find_tag(look(store, fit)?, id))
 }

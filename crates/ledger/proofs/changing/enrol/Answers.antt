@@ -1,0 +1,30 @@
+-- Enrolling takes one book to the next.
+use Rattle.std.proofs.Common.{ℕ, List, length, ◌≡◌, arith}
+use Rattle.book.specs.Rows.{enrol_rows}
+use Rattle.book.specs.Edits.{enrol_edits, enrolled}
+use Rattle.book.proofs.Changes.{enrol_holds}
+use Rattle.ledger.proofs.Booking.{Lawful, on_book, still_sound}
+use Rattle.ledger.proofs.changing.enrol.Goals as goal
+
+law : (id : List ℕ) (a : ℕ) → length id ≡ 8 → Lawful (λ b. enrol_rows b id a) (λ b. enrol_edits b id a) (enrolled id a)
+law id a long f b = enrol_holds f b id a long
+
+pub returns-clause-enrols : goal.returns-clause-enrols
+returns-clause-enrols g c =
+    let s = c.args.store.now in
+    let t = c.change.new.store in
+    let id = c.args.id.now in
+    let a = c.args.account in
+    let long : length id ≡ 8 = omega arith in
+    on_book (λ b. enrol_rows b id a) (λ b. enrol_edits b id a) (enrolled id a) c.args.fit s.state t.state (g.D.Device.disk s.device) (g.D.Device.disk t.device) c.in_ok-look.field-0.now c.in_ok-plan.plan c.args.flush c.change.result
+    (law id a long) c.requires c.in_ok-look.ensures c.in_ok-plan.ensures c.change.ensures
+
+pub returns-clause-sound : goal.returns-clause-sound
+returns-clause-sound g c =
+    let s = c.args.store.now in
+    let t = c.change.new.store in
+    let id = c.args.id.now in
+    let a = c.args.account in
+    let long : length id ≡ 8 = omega arith in
+    still_sound (λ b. enrol_rows b id a) (λ b. enrol_edits b id a) (enrolled id a) c.args.fit s.state t.state (g.D.Device.disk s.device) (g.D.Device.disk t.device) c.in_ok-look.field-0.now c.in_ok-plan.plan c.args.flush c.change.result
+    (law id a long) c.requires c.in_ok-look.ensures c.in_ok-plan.ensures c.change.ensures
