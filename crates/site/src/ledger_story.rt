@@ -1,5 +1,5 @@
-// The last part of the story: a ledger on a mirror of two cards under write caches, worked by a script while power fails in
-// a truncation and in the opening after it. Then the cards are moved into a fresh controller.
+// The last part of the story: a ledger on a mirror of two cards under write caches, worked by a script while power
+// fails in a truncation and in the opening after it. Then the cards are moved into a fresh controller.
 use crate::moving::{Issue, tell_moving};
 use crate::reopening::StoreRefusal;
 use crate::truncating::plan;
@@ -26,7 +26,7 @@ const YARD: [u8; 8] = *b"tag 4712";
 
 const HALL: [u8; 8] = *b"tag 4713";
 
-// The tags of the story. Each is what its text's bytes are.
+// The tags of the story. A tag is the 8 bytes of its text.
 pub const TAGS: [[u8; 8]; 3] = [GATE, YARD, HALL];
 
 const CALLS: usize = 21;
@@ -74,8 +74,8 @@ fn waiting(change: Change) -> Call {
     Call::Make(change, false)
 }
 
-// Visits are bought, tags enrolled and rounds walked. What waits as power fails in the second truncation is a round and
-// visits that are bought; what is lost of that is bought again.
+// Visits are bought, tags enrolled and rounds walked. What waits as power fails in the second truncation is a round
+// and visits that are bought; what is lost of that is bought again.
 fn script() -> [Call; CALLS] {
     let bought = Change::Issue(SCHOOL, 6);
     let gate = Change::Visit(GATE, GUARDS);
@@ -174,8 +174,8 @@ fn tell_answer(rt: &HostRuntime, call: Call, answer: Answer) -> anyhow::Result<(
     Ok(())
 }
 
-// The issues that stand after these answers: those that were made, but for what a later opening no longer found. Power cuts
-// none of the script's issues in its own call, so that each that is entered has an answer.
+// The issues that stand after these answers: those that were made, but for what a later opening no longer found.
+// Power cuts none of the script's issues in its own call, so that each that is entered has an answer.
 fn standing(heap: Global, calls: &[Call], answers: &[Answer]) -> Result<Vec<Issue>, AllocError> {
     let mut issues: Vec<Issue> = Vec::new(heap);
     for (call, answer) in calls.iter().zip(answers.iter()) {
@@ -220,10 +220,10 @@ fn tell_pile<L: Device + Drop, R: Device + Drop>(
     tell_script(rt, Mirror::new(Cache::new(left), Cache::new(right)))
 }
 
-// Each card is written 225 times by the format and 52 times by the make's transaction; 22 times by the changes before the
-// first truncation, 56 times by that, and 8 times by the two rounds after it. Then power fails in the second truncation, as
-// the left card's cache sends down the last of the 7 records that wait; and in the opening, as the right card is cleared of
-// the stray.
+// Each card is written 225 times by the format and 52 times by the make's transaction; 22 times by the changes before
+// the first truncation, 56 times by that, and 8 times by the two rounds after it. Then power fails in the second
+// truncation, as the left card's cache sends down the last of the 7 records that wait; and in the opening, as the
+// right card is cleared of the stray.
 pub fn tell_ledger(rt: &HostRuntime) -> anyhow::Result<()> {
     let mut left = Card::blank(rt.alloc(), SECTORS, 1)?;
     let mut right = Card::blank(rt.alloc(), SECTORS, 2)?;

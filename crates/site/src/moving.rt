@@ -1,5 +1,5 @@
-// The end of the story: the cards are moved into a fresh controller, which opens the ledger that they hold and tells what it
-// finds.
+// The end of the story: the cards are moved into a fresh controller, which opens the ledger that they hold and tells
+// what it finds.
 use crate::ledger_story::{LedgerRefusal, TAGS, account_name, tag_name};
 use crate::say;
 use book::LedgerFault;
@@ -27,7 +27,7 @@ fn balances<D: Device>(ledger: &Ledger<D>) -> Result<[u64; ACCOUNTS], LedgerFaul
     Ok(balances)
 }
 
-// A sum that would pass the greatest number stays there; a ledger's total is far below.
+// A sum that would pass the greatest number stays there; a ledger's total is at most half of that.
 fn sum(balances: &[u64]) -> u64 {
     let mut sum = 0u64;
     for balance in balances {
