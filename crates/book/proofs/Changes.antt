@@ -9,46 +9,61 @@ use Rattle.book.specs.Layout.{Stands, balance_at, bucket_chain, cell, Cell}
 use Rattle.book.specs.Book.{Book, At, at, IsAccount, Money, Records, Holds, GoodEntries, GoodTags, cells_of, entry_cell, tag_cell, sum_to}
 use Rattle.book.specs.Rows.{first_fit, issue_rows, move_rows, visit_rows, enrol_rows, paying_rows, no_account, same, nothing, short, no_cell, too_much, present, account_of, is_empty}
 use Rattle.book.specs.Edits.{Edit, edit, after_edits, head_or_0, with_at, issue_edits, issued_to, entry, move_edits, moved, paying_edits, visit_edits, paid, visited, tag, enrol_edits, enrolled}
-use Rattle.book.proofs.Standing.{put, put_stands, edits_keep, digits_length, entry_length, tag_length}
+use Rattle.book.proofs.Standing.{put_keeps, put, put_stands, digits_length, entry_length, tag_length}
 use Rattle.book.proofs.Places.{total_balance, balances_apart}
-use Rattle.book.proofs.Keeping.{misses, stands_first, number_kept}
+use Rattle.book.proofs.Keeping.{misses, number_kept}
 use Rattle.book.proofs.Threads.{chain_cases, cells_account, cells_bucket, cells_tags}
-use Rattle.book.proofs.Sums.{with_same, with_other, sum_changed, sum_least}
+use Rattle.book.proofs.Sums.{with_same, with_other, with_swapped, sum_changed, sum_least}
 use Rattle.book.proofs.Passing.{none_fits, is_one, not_same, not_less, no_tag, tag_account}
 use Rattle.book.proofs.Beside.{AllMoney, total_is_money, balance_is_money, chains_beside, zeros_beside, InFront, holds_in_front}
 
+-- each balance stands
+abbrev Balances : (ℕ → ℕ) → (ℕ → ℕ) → Type 0
+Balances f balances = (d : ℕ) → IsAccount d → Stands f (balance_at d) (digits 8 (balances d))
+
+-- and each of the new ones, once one of them is written
+balances_after : (f balances : ℕ → ℕ) (a v : ℕ) → Balances f balances → Balances (put (edit (balance_at a) (digits 8 v)) f) (with_at a v balances)
+balances_after f balances a v h d k =
+    ⊎_elim
+    (λ (e : d ≡ a).
+    subst (λ (n : ℕ). Stands (put (edit (balance_at a) (digits 8 v)) f) (balance_at n) (digits 8 (with_at a v balances n))) (sym e)
+    (subst (λ (w : ℕ). Stands (put (edit (balance_at a) (digits 8 v)) f) (balance_at a) (digits 8 w)) (sym (with_same a v balances))
+    (put_stands (edit (balance_at a) (digits 8 v)) f)))
+    (λ (ne : d ≢ a).
+    subst (λ (w : ℕ). Stands (put (edit (balance_at a) (digits 8 v)) f) (balance_at d) (digits 8 w)) (sym (with_other a v balances d ne))
+    (number_kept f (put (edit (balance_at a) (digits 8 v)) f) (balance_at d) 8 (balances d)
+    (put_keeps (edit (balance_at a) (digits 8 v)) f (balance_at d) 8 (misses (balance_at d) 8 (balance_at a) 8 (digits 8 v) (digits_length 8 v) (balances_apart d a ne)))
+    (h d k)))
+    (cases_eq d a)
+
+-- the total stays, where a balance is written
+total_after : (f : ℕ → ℕ) (a v n : ℕ) → IsAccount a → Stands f 0 (digits 8 n) → Stands (put (edit (balance_at a) (digits 8 v)) f) 0 (digits 8 n)
+total_after f a v n i s =
+    number_kept f (put (edit (balance_at a) (digits 8 v)) f) 0 8 n
+    (put_keeps (edit (balance_at a) (digits 8 v)) f 0 8 (misses 0 8 (balance_at a) 8 (digits 8 v) (digits_length 8 v) (inl (total_balance a i))))
+    s
+
 -- issue
 module _ (f : ℕ → ℕ) (b : Book) (a amount : ℕ) (h : Holds f b) (i : IsAccount a) (fits : b.issued + amount < 2 ^ 63) where
+  balances_kept : Balances (put (edit 0 (digits 8 (b.issued + amount))) f) b.balances
+  balances_kept d k =
+      number_kept f (put (edit 0 (digits 8 (b.issued + amount))) f) (balance_at d) 8 (b.balances d)
+      (put_keeps (edit 0 (digits 8 (b.issued + amount))) f (balance_at d) 8
+      (misses (balance_at d) 8 0 8 (digits 8 (b.issued + amount)) (digits_length 8 (b.issued + amount)) (inr (total_balance d k))))
+      (h.money.balance d k)
+
+  issued_sum : sum_to 64 (with_at a (b.balances a + amount) b.balances) ≡ b.issued + amount
+  issued_sum = let e = sum_changed 64 a (b.balances a + amount) b.balances i.0 i.1 in let s = h.money.sum in omega (arith, e, s)
+
   issued_money : Money (after_edits (issue_edits b a amount) f) (issued_to a amount b)
   issued_money =
+      let totalled = put (edit 0 (digits 8 (b.issued + amount))) f in
       record {
-        issued =
-            stands_first 0 8 (digits 8 (b.issued + amount)) (edit (balance_at a) (digits 8 (b.balances a + amount)) ∷ []) f (digits_length 8 (b.issued + amount))
-            (misses 0 8 (balance_at a) 8 (digits 8 (b.balances a + amount)) (digits_length 8 (b.balances a + amount)) (inl (total_balance a i)), tt);
-        balance = balance;
+        issued = total_after totalled a (b.balances a + amount) (b.issued + amount) i (put_stands (edit 0 (digits 8 (b.issued + amount))) f);
+        balance = balances_after totalled b.balances a (b.balances a + amount) balances_kept;
         bound = fits;
-        sum = total;
+        sum = issued_sum;
       }
-    where
-      balance : (d : ℕ) → IsAccount d → Stands (after_edits (issue_edits b a amount) f) (balance_at d) (digits 8 (with_at a (b.balances a + amount) b.balances d))
-      balance d j =
-          ⊎_elim
-          (λ (e : d ≡ a).
-          subst (λ (k : ℕ). Stands (after_edits (issue_edits b a amount) f) (balance_at k) (digits 8 (with_at a (b.balances a + amount) b.balances k))) (sym e)
-          (subst (λ (v : ℕ). Stands (after_edits (issue_edits b a amount) f) (balance_at a) (digits 8 v)) (sym (with_same a (b.balances a + amount) b.balances))
-          (put_stands (edit (balance_at a) (digits 8 (b.balances a + amount))) (put (edit 0 (digits 8 (b.issued + amount))) f))))
-          (λ (ne : d ≢ a).
-          subst (λ (v : ℕ). Stands (after_edits (issue_edits b a amount) f) (balance_at d) (digits 8 v)) (sym (with_other a (b.balances a + amount) b.balances d ne))
-          (number_kept f (after_edits (issue_edits b a amount) f) (balance_at d) 8 (b.balances d)
-          (edits_keep (issue_edits b a amount) f (balance_at d) 8 (
-            misses (balance_at d) 8 0 8 (digits 8 (b.issued + amount)) (digits_length 8 (b.issued + amount)) (inr (total_balance d j)),
-            (misses (balance_at d) 8 (balance_at a) 8 (digits 8 (b.balances a + amount)) (digits_length 8 (b.balances a + amount)) (balances_apart d a ne), tt),
-          ))
-          (h.money.balance d j)))
-          (cases_eq d a)
-
-      total : sum_to 64 (with_at a (b.balances a + amount) b.balances) ≡ b.issued + amount
-      total = let e = sum_changed 64 a (b.balances a + amount) b.balances i.0 i.1 in let s = h.money.sum in omega (arith, e, s)
 
   issued_holds : Holds (after_edits (issue_edits b a amount) f) (issued_to a amount b)
   issued_holds =
@@ -78,34 +93,13 @@ paying payer payee amount b = edit (balance_at payer) (digits 8 (b.balances paye
 
 module _ (f : ℕ → ℕ) (b : Book) (payer payee amount : ℕ) (h : Holds f b) (i : IsAccount payer) (j : IsAccount payee) (ne : payer ≢ payee) (enough : amount ≤ b.balances payer) (some : is_empty b.free ≡ false) where
   -- the balances are the new ones
-  repaid_stands : (d : ℕ) → IsAccount d → Stands (after_edits (paying payer payee amount b) f) (balance_at d) (digits 8 (repaid payer payee amount b d))
+  repaid_stands : Balances (after_edits (paying payer payee amount b) f) (repaid payer payee amount b)
   repaid_stands d k =
-      ⊎_elim
-      (λ (e : d ≡ payer).
-      subst (λ (n : ℕ). Stands (after_edits (paying payer payee amount b) f) (balance_at n) (digits 8 (repaid payer payee amount b n))) (sym e)
-      (subst (λ (v : ℕ). Stands (after_edits (paying payer payee amount b) f) (balance_at payer) (digits 8 v))
-      (sym (with_same payer (b.balances payer - amount) (with_at payee (b.balances payee + amount) b.balances)))
-      (stands_first (balance_at payer) 8 (digits 8 (b.balances payer - amount)) (edit (balance_at payee) (digits 8 (b.balances payee + amount)) ∷ []) f
-      (digits_length 8 (b.balances payer - amount))
-      (misses (balance_at payer) 8 (balance_at payee) 8 (digits 8 (b.balances payee + amount)) (digits_length 8 (b.balances payee + amount)) (balances_apart payer payee ne), tt))))
-      (λ (np : d ≢ payer).
       subst (λ (v : ℕ). Stands (after_edits (paying payer payee amount b) f) (balance_at d) (digits 8 v))
-      (sym (with_other payer (b.balances payer - amount) (with_at payee (b.balances payee + amount) b.balances) d np))
-      (⊎_elim
-      (λ (e : d ≡ payee).
-      subst (λ (n : ℕ). Stands (after_edits (paying payer payee amount b) f) (balance_at n) (digits 8 (with_at payee (b.balances payee + amount) b.balances n))) (sym e)
-      (subst (λ (v : ℕ). Stands (after_edits (paying payer payee amount b) f) (balance_at payee) (digits 8 v)) (sym (with_same payee (b.balances payee + amount) b.balances))
-      (put_stands (edit (balance_at payee) (digits 8 (b.balances payee + amount))) (put (edit (balance_at payer) (digits 8 (b.balances payer - amount))) f))))
-      (λ (nq : d ≢ payee).
-      subst (λ (v : ℕ). Stands (after_edits (paying payer payee amount b) f) (balance_at d) (digits 8 v)) (sym (with_other payee (b.balances payee + amount) b.balances d nq))
-      (number_kept f (after_edits (paying payer payee amount b) f) (balance_at d) 8 (b.balances d)
-      (edits_keep (paying payer payee amount b) f (balance_at d) 8 (
-        misses (balance_at d) 8 (balance_at payer) 8 (digits 8 (b.balances payer - amount)) (digits_length 8 (b.balances payer - amount)) (balances_apart d payer np),
-        (misses (balance_at d) 8 (balance_at payee) 8 (digits 8 (b.balances payee + amount)) (digits_length 8 (b.balances payee + amount)) (balances_apart d payee nq), tt),
-      ))
-      (h.money.balance d k)))
-      (cases_eq d payee)))
-      (cases_eq d payer)
+      (with_swapped payer payee (b.balances payer - amount) (b.balances payee + amount) b.balances d ne)
+      (balances_after (put (edit (balance_at payer) (digits 8 (b.balances payer - amount))) f) (with_at payer (b.balances payer - amount) b.balances) payee (b.balances payee + amount)
+      (balances_after f b.balances payer (b.balances payer - amount) h.money.balance)
+      d k)
 
   repaid_sum : sum_to 64 (repaid payer payee amount b) ≡ b.issued
   repaid_sum =
@@ -119,12 +113,8 @@ module _ (f : ℕ → ℕ) (b : Book) (payer payee amount : ℕ) (h : Holds f b)
   moved_money =
       record {
         issued =
-            number_kept f (after_edits (paying payer payee amount b) f) 0 8 b.issued
-            (edits_keep (paying payer payee amount b) f 0 8 (
-              misses 0 8 (balance_at payer) 8 (digits 8 (b.balances payer - amount)) (digits_length 8 (b.balances payer - amount)) (inl (total_balance payer i)),
-              (misses 0 8 (balance_at payee) 8 (digits 8 (b.balances payee + amount)) (digits_length 8 (b.balances payee + amount)) (inl (total_balance payee j)), tt),
-            ))
-            h.money.issued;
+            total_after (put (edit (balance_at payer) (digits 8 (b.balances payer - amount))) f) payee (b.balances payee + amount) b.issued j
+            (total_after f payer (b.balances payer - amount) b.issued i h.money.issued);
         balance = repaid_stands;
         bound = h.money.bound;
         sum = repaid_sum;

@@ -73,17 +73,6 @@ pub eight_long : (x : ℕ) → length (digits 8 x) ≡ 8
 unfolding digits
 eight_long x = refl
 
--- the bytes of an amount, read as a number
-pub amount_laid : (bytes front : List ℕ) (n account : ℕ) → ((i : ℕ) → get_or bytes i 0 < 256) → length front ≡ 8 → laid front account ≡ bytes
-    → n ≡ from_le_bytes w64 front → laid (digits 8 n) account ≡ bytes
-amount_laid bytes front n account small h e k = ap (λ (bs : List ℕ). laid bs account) (sym (bytes_8 n) ∙ le_bytes_8 front n h below k) ∙ e
-  where
-    part : front ≡ take 8 bytes
-    part = sym (take_at front (digits 2 account ++ replicate 10 0) 8 h) ∙ ap (λ (bs : List ℕ). take 8 bs) e
-
-    below : (i : ℕ) → get_or front i 0 < 256
-    below i =
-        ⊎_elim
-        (λ (a : i < 8). omega (arith, ap (λ (bs : List ℕ). get_or bs i 0) part, get_or-take 8 bytes i 0 a, small i))
-        (λ (a : 8 ≤ i). omega (arith, get_or_past front i 0 (omega (arith, h))))
-        (cases_lt i 8)
+-- the number that is read from 8 bytes is written in them
+pub eight_read : (bytes : List ℕ) (n : ℕ) → length bytes ≡ 8 → ((i : ℕ) → get_or bytes i 0 < 256) → n ≡ from_le_bytes w64 bytes → digits 8 n ≡ bytes
+eight_read bytes n h small e = sym (bytes_8 n) ∙ le_bytes_8 bytes n h small e

@@ -1,5 +1,5 @@
 -- One number changed among many, and the sum of the balances after that.
-use Rattle.std.proofs.Common.{◌≡◌, ℕ, zero, suc, ◌+◌, ◌≤◌, ◌≢◌, cond, refl, sym, ap, ◌∙◌, ⊎_elim, arith}
+use Rattle.std.proofs.Common.{◌≡◌, ℕ, zero, suc, ◌+◌, ◌≤◌, ◌≢◌, eqb, cond, refl, sym, ap, ◌∙◌, ⊎_elim, arith}
 use Rattle.std.proofs.lemmas.Bool.{cases_eq, eq-eqb, ne_eqb}
 use Rattle.book.specs.Book.{sum_to}
 use Rattle.book.specs.Edits.{with_at}
@@ -9,6 +9,18 @@ with_same a x f = ap (λ t. cond t x (f a)) (eq-eqb a a refl)
 
 pub with_other : {X : Type 0} → (a : ℕ) (x : X) (f : ℕ → X) (i : ℕ) → i ≢ a → with_at a x f i ≡ f i
 with_other a x f i ne = ap (λ t. cond t x (f i)) (ne_eqb i a ne)
+
+-- two numbers changed, in either order
+pub with_swapped : {X : Type 0} → (a c : ℕ) (x y : X) (f : ℕ → X) (i : ℕ) → a ≢ c → with_at c y (with_at a x f) i ≡ with_at a x (with_at c y f) i
+with_swapped a c x y f i ne =
+    ⊎_elim
+    (λ (e : i ≡ a).
+    let p = with_other c y (with_at a x f) i (λ (k : i ≡ c). ne (sym e ∙ k)) in
+    let q = ap (with_at a x f) e ∙ with_same a x f in
+    let r = ap (with_at a x (with_at c y f)) e ∙ with_same a x (with_at c y f) in
+    p ∙ q ∙ sym r)
+    (λ (n : i ≢ a). ap (λ z. cond (eqb i c) y z) (with_other a x f i n) ∙ sym (with_other a x (with_at c y f) i n))
+    (cases_eq i a)
 
 pub sum_same : (n : ℕ) (f g : ℕ → ℕ) → ((i : ℕ) → 1 ≤ i → i ≤ n → f i ≡ g i) → sum_to n f ≡ sum_to n g
 unfolding sum_to

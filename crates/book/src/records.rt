@@ -1,5 +1,6 @@
 // What a cell may hold: a tag, or an entry. Chains are written once for every kind of record.
 ghost use Rattle.std.specs.Prelude.{◌≡◌, ℕ, ◌+◌, ◌≤◌, List, length, take, drop};
+ghost use Rattle.record.specs.Fields.{digits};
 ghost use Rattle.book.specs.Records.{ReadAs, laid, Parted, tag_kind, tag_content, TagFits, entry_kind, entry_content, EntryFits};
 ghost use Rattle.book.specs.Laws.{tag_long, tag_same, entry_long, entry_same};
 
@@ -75,14 +76,16 @@ impl CellRecord for Entry {
 
     ghost fits = { EntryFits };
 
+    #[tactic(auto, using(record::proofs::Numbers::bytes_8))]
     fn to_content(&self) -> [u8; CONTENT] {
         lay(self.amount.to_le_bytes(), self.payee)
     }
 
+    #[tactic(auto, using(crate::proofs::Contents::eight_long))]
     fn from_content(bytes: &[u8; CONTENT]) -> Option<Self> {
         let (amount, payee) = parts(bytes)?;
         Some(Entry {
-            amount: u64::from_le_bytes(amount),
+            amount: number(&amount),
             payee,
         })
     }
@@ -118,4 +121,11 @@ fn part<const N: usize>(bytes: &[u8; CONTENT], at: usize) -> [u8; N]
     ensures { result ≡ take N (drop at bytes.now) }
 {
     bytes[at..at + N].try_into().unwrap()
+}
+
+// The number in 8 bytes.
+fn number(bytes: &[u8; 8]) -> u64
+    ensures { digits 8 result ≡ bytes.now }
+{
+    u64::from_le_bytes(*bytes)
 }
