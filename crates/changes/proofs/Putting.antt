@@ -1,11 +1,10 @@
 -- One patch declared and written, and many.
-use Rattle.std.proofs.Common.{◌≡◌, ℕ, suc, ◌+◌, ◌<◌, ◌≤◌, min, max, Bool, true, false, cond, not, ◌&&◌, eqb, ltb, ◌⊎◌, List, [], ◌∷◌, map, length, get_or, drop, Some, None, Ok, Err, Option, Result, sym, refl, ap, ◌∙◌, subst, inl, inr, arith}
+use Rattle.std.proofs.Common.{◌≡◌, ℕ, ◌+◌, ◌<◌, ◌≤◌, min, max, Bool, true, false, cond, ltb, ◌⊎◌, List, [], ◌∷◌, map, length, get_or, drop, Some, None, Ok, Err, Option, Result, sym, refl, ap, ◌∙◌, subst, inl, inr, arith}
 use Rattle.std.proofs.lemmas.Bool.{eq-eqb}
 use Rattle.std.proofs.lemmas.List.{length-map, get_or-map, drop_more}
 use Rattle.journal.specs.Memory.{overlaid}
 use Rattle.device.specs.Disk.{Disk}
 use Rattle.image.specs.declared.run.Run.{Run}
-use Rattle.image.specs.declared.run.ImageFault.{ImageFault}
 use Rattle.image.specs.declared.run.ImageFault.TheVariants.{Range, Runs as Too-many, Undeclared}
 use Rattle.image.specs.declared.state.Image.{Image}
 use Rattle.image.specs.Runs.{run, joined, Declared}
@@ -23,7 +22,7 @@ use Rattle.book.specs.Edits.{Edit, edit, edited, declaring}
 use Rattle.plans.specs.declared.plan.Patch.{Patch}
 use Rattle.plans.specs.Plans.{edit_of}
 use Rattle.changes.specs.Changes.{Prepared, Changes}
-use Rattle.changes.specs.Steps.{Underway, Put, Puts}
+use Rattle.changes.specs.Steps.{Underway, Put, Puts, Finishes}
 
 pub some_none : {A : Type 0} (o : Option A) (x : A) → o ≡ None → o ≡ Some x → ⊥
 some_none o x a b = let z : ◌≡◌ {A = ℕ} 0 1 = cc in omega arith
@@ -178,15 +177,16 @@ next_edit xs ys i x here same h =
     (drop_more (map edit_of xs) i (edit_of x) there ∙ ap (λ (y : Edit). y ∷ drop (i + 1) (map edit_of xs)) (get_or-map edit_of xs i x (edit_of x) h ∙ ap edit_of (sym here)))
 
 -- What was begun, put in and committed is a change.
-pub change_made : (s m p s' : State) (d e : Disk) (t : Token) (xs : List Edit) (flush : Bool) (a : Unit {0}) (r : Result (ℕ × ℕ) StoreFault)
-    → Begins s (Ok t) m → Puts m t.number 5 xs (Ok a) p → Commits p d t.number flush r s' e → declared s.image ≡ [] → Changes s d xs flush r s' e
-change_made s m p s' d e t xs flush a r (fits, number, made) puts commits clean =
+pub change_made : (s m p s' : State) (d e : Disk) (t : Token) (xs : List Edit) (flush : Bool) (put : Result (Unit {0}) StoreFault) (r : Result (ℕ × ℕ) StoreFault)
+    → Begins s (Ok t) m → Puts m t.number 5 xs put p → Finishes put p d t.number flush r s' e → declared s.image ≡ [] → Changes s d xs flush r s' e
+change_made s m p s' d e t xs flush put r (fits, number, made) puts finishes clean =
     let none = ap (λ (i : Image). declared i) made.image_is ∙ clean in
     let log = ap (λ (l : Log). l.ordinal + 1) made.log_is in
     let on = made.on_is ∙ on_past s (busy s ∷ []) fits in
     let few = ap (λ (rs : List Run). length rs) none in
-    let q = (puts (record { on = on; busy = made.busy_is; fits = number ∙ sym log }) (omega (arith, few))).1 in
-    (p, prepared q none, subst (λ (n : ℕ). Commits p d n flush r s' e) number commits)
+    let q = puts (record { on = on; busy = made.busy_is; fits = number ∙ sym log }) (omega (arith, few)) in
+    let commits = subst (λ (x : Result (Unit {0}) StoreFault). Finishes x p d t.number flush r s' e) q.0 finishes in
+    (p, prepared q.1 none, subst (λ (n : ℕ). Commits p d n flush r s' e) number commits)
   where
     prepared : Put m xs p → declared m.image ≡ [] → Prepared s xs p
     prepared q none =

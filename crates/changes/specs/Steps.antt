@@ -4,6 +4,7 @@ use Rattle.device.specs.Disk.{Disk}
 use Rattle.image.specs.Calls.{declared}
 use Rattle.transactions.specs.declared.fault.StoreFault.{StoreFault}
 use Rattle.transactions.specs.declared.state.State.{State}
+use Rattle.transactions.specs.Calls.{Aborts, Commits}
 use Rattle.transactions.specs.Rows.{first_fit, begin_rows}
 use Rattle.book.specs.Edits.{Edit, edited, declaring}
 use Rattle.changes.specs.Changes.{Changes}
@@ -27,6 +28,13 @@ pub record Put (s : State) (xs : List Edit) (p : State) : Type 0 where
 -- Where so many runs more find room, the edits are made.
 abbrev pub Puts : State → ℕ → ℕ → List Edit → Result (Unit {0}) StoreFault → State → Type 0
 Puts s number more xs r p = Underway s number → length (declared s.image) + more < 17 → (r ≡ Ok tt) × Put s xs p
+
+-- Where all was put in, that is committed; else the transaction is aborted, and the refusal answered.
+abbrev pub Finishes : Result (Unit {0}) StoreFault → State → Disk → ℕ → Bool → Result (ℕ × ℕ) StoreFault → State → Disk → Type 0
+Finishes (Ok _) s d number flush r s' e = Commits s d number flush r s' e
+Finishes (Err f) s d number flush r s' e =
+    (e ≡ d)
+    × ((Aborts s number (Ok tt) s' × (r ≡ Err f)) ⊎ ((g : StoreFault) × Aborts s number (Err g) s' × (r ≡ Err g)))
 
 -- A change where no transaction may begin is refused, and nothing moves. On a store with nothing declared it is made.
 abbrev pub Performs : State → Disk → List Edit → Bool → Result (ℕ × ℕ) StoreFault → State → Disk → Type 0

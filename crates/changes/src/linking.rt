@@ -3,18 +3,18 @@ ghost use Rattle.std.specs.Prelude.{◌≡◌, true};
 ghost use Rattle.book.specs.Edits.{free_chain, make_edits};
 ghost use Rattle.changes.specs.Steps.{Puts, Performs};
 
-use crate::performing::put;
+use crate::performing::{finish, put};
 use device::Device;
+use plans::CELL;
 use transactions::{Store, StoreFault, Token};
 
-// How many cells there are, and how many bytes each has.
+// How many cells there are.
 const CELLS: usize = 200;
 
-const CELL: usize = 24;
-
-// Where the free chain has its head, and where cell 1 stands.
+// Where the free chain has its head.
 const FREE: usize = 8;
 
+// Where cell 1 stands.
 const FIRST: usize = 1072;
 
 // The bytes of all cells, each leading to the next one.
@@ -43,10 +43,6 @@ pub fn link_cells<D: Device>(store: &mut Store<D>) -> Result<(u64, usize), Store
     ensures { Performs store.old.state (D.Device.disk store.old.device) make_edits true result store.new.state (D.Device.disk store.new.device) }
 {
     let token = store.begin()?;
-    // Two stretches of the memory are never refused.
-    if let Err(fault) = put_links(store, &token) {
-        store.abort(token)?;
-        return Err(fault);
-    }
-    store.commit(token, true)
+    let put = put_links(store, &token);
+    finish(store, token, put, true)
 }

@@ -2,7 +2,7 @@
 ghost use Rattle.std.specs.Prelude.{◌≡◌, ◌+◌, ◌≤◌, [], ◌∷◌, length};
 ghost use Rattle.book.specs.Edits.{edit};
 ghost use Rattle.plans.specs.Plans.{edits_of};
-ghost use Rattle.changes.specs.Steps.{Puts, Performs};
+ghost use Rattle.changes.specs.Steps.{Puts, Finishes, Performs};
 
 use device::Device;
 use plans::Plan;
@@ -35,7 +35,24 @@ fn put_all<D: Device>(store: &mut Store<D>, token: &Token, plan: &Plan) -> Resul
     Ok(())
 }
 
-// Makes a planned change by one transaction: its bytes are declared, put in and committed.
+// Commits where all was put in; where the store refused some of it, the transaction is undone.
+pub(crate) fn finish<D: Device>(
+    store: &mut Store<D>,
+    token: Token,
+    put: Result<(), StoreFault>,
+    flush: bool,
+) -> Result<(u64, usize), StoreFault>
+    ensures { Finishes put store.old.state (D.Device.disk store.old.device) token.number flush result store.new.state (D.Device.disk store.new.device) }
+{
+    if let Err(fault) = put {
+        store.abort(token)?;
+        return Err(fault);
+    }
+    store.commit(token, flush)
+}
+
+// Makes a planned change by one transaction: its bytes are declared, put in and committed. They lie in the memory, in
+// less runs than there is room for, so the store refuses none of them.
 pub fn perform<D: Device>(
     store: &mut Store<D>,
     plan: &Plan,
@@ -44,10 +61,6 @@ pub fn perform<D: Device>(
     ensures { Performs store.old.state (D.Device.disk store.old.device) (edits_of plan.now) flush result store.new.state (D.Device.disk store.new.device) }
 {
     let token = store.begin()?;
-    // The bytes of a plan lie in the memory, in less runs than there is room for, so the store takes them all.
-    if let Err(fault) = put_all(store, &token, plan) {
-        store.abort(token)?;
-        return Err(fault);
-    }
-    store.commit(token, flush)
+    let put = put_all(store, &token, plan);
+    finish(store, token, put, flush)
 }

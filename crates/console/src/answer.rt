@@ -1,5 +1,6 @@
 // What the console answers to a command.
 use crate::card::{Dump, Shown};
+use book::{Entry, LedgerFault};
 use device::DeviceFault;
 use std::fmt;
 use transactions::StoreFault;
@@ -18,6 +19,13 @@ pub enum Answer<'a> {
     Begun(u64),
     // The ordinal of a commit, and how many records it became.
     Committed(u64, usize),
+    // The ordinal of a change of the ledger.
+    Changed(u64),
+    // The ordinal of a collection, and the entry that it took off.
+    Collected(u64, Entry),
+    // The account of a tag, if it is there.
+    Account(Option<u16>),
+    Balance(u64),
     Shown(Shown<'a>),
     Dump(Dump<'a>),
 }
@@ -31,10 +39,17 @@ impl fmt::Display for Answer<'_> {
                 let text = Hex(bytes.as_slice());
                 write!(f, "ok {text}")
             }
-            Answer::Begun(number) => write!(f, "ok {number}"),
+            Answer::Begun(number) | Answer::Changed(number) | Answer::Balance(number) => {
+                write!(f, "ok {number}")
+            }
             Answer::Found(number, count) | Answer::Committed(number, count) => {
                 write!(f, "ok {number} {count}")
             }
+            Answer::Collected(ordinal, Entry { amount, payee }) => {
+                write!(f, "ok {ordinal} {amount} {payee}")
+            }
+            Answer::Account(Some(account)) => write!(f, "ok {account}"),
+            Answer::Account(None) => f.write_str("ok none"),
             Answer::Shown(shown) => write!(f, "{shown}"),
             Answer::Dump(dump) => write!(f, "{dump}"),
         }
@@ -46,24 +61,45 @@ impl fmt::Display for Answer<'_> {
 pub enum Refusal {
     // It does not fit where the program stands.
     NotNow,
-    // The store says no, or the device, whose fault that of the store holds.
-    Store(StoreFault),
+    // The ledger says no, or the store or the device, whose faults that of the ledger holds.
+    Ledger(LedgerFault),
+}
+
+impl From<LedgerFault> for Refusal {
+    fn from(fault: LedgerFault) -> Self {
+        Refusal::Ledger(fault)
+    }
 }
 
 impl From<StoreFault> for Refusal {
     fn from(fault: StoreFault) -> Self {
-        Refusal::Store(fault)
+        Refusal::Ledger(fault.into())
     }
 }
 
 impl From<DeviceFault> for Refusal {
     fn from(fault: DeviceFault) -> Self {
-        Refusal::Store(fault.into())
+        Refusal::from(StoreFault::from(fault))
     }
 }
 
 // The values that a refusal returns, each with a space before it.
-fn write_values<W: fmt::Write>(f: &mut fmt::Formatter<W>, fault: &StoreFault) -> fmt::Result {
+fn write_values<W: fmt::Write>(f: &mut fmt::Formatter<W>, fault: &LedgerFault) -> fmt::Result {
+    match fault {
+        LedgerFault::Store(fault) => write_store_values(f, fault),
+        LedgerFault::NotLedger => Ok(()),
+        LedgerFault::Account(account)
+        | LedgerFault::Present(account)
+        | LedgerFault::Same(account)
+        | LedgerFault::Nothing(account)
+        | LedgerFault::NoCell(account)
+        | LedgerFault::NoEntry(account) => write!(f, " {account}"),
+        LedgerFault::Unknown(bucket) => write!(f, " {bucket}"),
+        LedgerFault::Short(value) | LedgerFault::Total(value) => write!(f, " {value}"),
+    }
+}
+
+fn write_store_values<W: fmt::Write>(f: &mut fmt::Formatter<W>, fault: &StoreFault) -> fmt::Result {
     match fault {
         StoreFault::Device(DeviceFault::Power(origin)) => write!(f, " {origin}"),
         StoreFault::Device(
@@ -88,7 +124,7 @@ impl fmt::Display for Refusal {
     fn fmt<W: fmt::Write>(&self, f: &mut fmt::Formatter<W>) -> fmt::Result {
         match self {
             Refusal::NotNow => f.write_str("not now"),
-            Refusal::Store(fault) => {
+            Refusal::Ledger(fault) => {
                 let number = fault.number();
                 write!(f, "no {number}")?;
                 write_values(f, fault)

@@ -1,5 +1,5 @@
 // A line of the console as a command.
-use crate::words::{LineFault, bytes, codes, number, size_to};
+use crate::words::{LineFault, bytes, codes, number, size_to, tag};
 use std::alloc::Global;
 
 // One of the two cards.
@@ -42,18 +42,26 @@ pub enum DeviceCommand {
     Restart,
 }
 
-// What makes a store on the pile.
+// What makes a store or a ledger on the pile.
 #[derive(Clone, Copy)]
 pub enum Start {
     Format,
     Open,
+    Make,
+    OpenLedger,
 }
 
-// Whether a commit writes its records, or leaves them in the spool.
+// Whether a commit, or a change of the ledger, writes its records, or leaves them in the spool.
 #[derive(Clone, Copy)]
 pub enum How {
     Flush,
     Spool,
+}
+
+impl How {
+    pub fn is_flush(self) -> bool {
+        matches!(self, How::Flush)
+    }
 }
 
 // A call of the store that is open. A read has its buffer.
@@ -69,6 +77,21 @@ pub enum StoreCommand {
     Truncate,
 }
 
+// A call of the ledger that is open.
+#[derive(Clone, Copy)]
+pub enum LedgerCommand {
+    Issue(u16, u64, How),
+    Move(u16, u16, u64, How),
+    Visit([u8; 8], u16, How),
+    Enrol([u8; 8], u16, How),
+    Drop([u8; 8], How),
+    Collect(u16, How),
+    Find([u8; 8]),
+    Balance(u16),
+    Flush,
+    Truncate,
+}
+
 #[derive(Drop)]
 pub enum Command {
     Card(Side, CardCommand),
@@ -77,6 +100,7 @@ pub enum Command {
     Device(DeviceCommand),
     Start(Start),
     Store(StoreCommand),
+    Ledger(LedgerCommand),
     Close,
 }
 
@@ -128,11 +152,17 @@ fn pile_command(heap: Global, words: &[&str]) -> Result<Command, LineFault> {
         ["end"] => Ok(Command::End),
         ["format"] => Ok(Command::Start(Start::Format)),
         ["open"] => Ok(Command::Start(Start::Open)),
+        ["make"] => Ok(Command::Start(Start::Make)),
+        ["open-ledger"] => Ok(Command::Start(Start::OpenLedger)),
         ["close"] => Ok(Command::Close),
         ["count" | "read" | "write" | "barrier" | "restart", ..] => {
             Ok(Command::Device(device_command(heap, words)?))
         }
-        _ => Ok(Command::Store(store_command(heap, words)?)),
+        ["begin" | "set-range" | "write-range" | "read-range", ..]
+        | ["commit" | "abort" | "flush" | "truncate", ..] => {
+            Ok(Command::Store(store_command(heap, words)?))
+        }
+        _ => Ok(Command::Ledger(ledger_command(heap, words)?)),
     }
 }
 
@@ -180,6 +210,39 @@ fn store_command(heap: Global, words: &[&str]) -> Result<StoreCommand, LineFault
         ["abort"] => Ok(StoreCommand::Abort),
         ["flush"] => Ok(StoreCommand::Flush),
         ["truncate"] => Ok(StoreCommand::Truncate),
+        _ => Err(LineFault::Bad),
+    }
+}
+
+fn ledger_command(heap: Global, words: &[&str]) -> Result<LedgerCommand, LineFault> {
+    match words {
+        ["issue", account, amount, how] => Ok(LedgerCommand::Issue(
+            number(account)?,
+            number(amount)?,
+            how_of(how)?,
+        )),
+        ["move", payer, payee, amount, how] => Ok(LedgerCommand::Move(
+            number(payer)?,
+            number(payee)?,
+            number(amount)?,
+            how_of(how)?,
+        )),
+        ["visit", id, guard, how] => Ok(LedgerCommand::Visit(
+            tag(heap, id)?,
+            number(guard)?,
+            how_of(how)?,
+        )),
+        ["enrol", id, account, how] => Ok(LedgerCommand::Enrol(
+            tag(heap, id)?,
+            number(account)?,
+            how_of(how)?,
+        )),
+        ["drop", id, how] => Ok(LedgerCommand::Drop(tag(heap, id)?, how_of(how)?)),
+        ["collect", account, how] => Ok(LedgerCommand::Collect(number(account)?, how_of(how)?)),
+        ["find", id] => Ok(LedgerCommand::Find(tag(heap, id)?)),
+        ["balance", account] => Ok(LedgerCommand::Balance(number(account)?)),
+        ["ledger-flush"] => Ok(LedgerCommand::Flush),
+        ["ledger-truncate"] => Ok(LedgerCommand::Truncate),
         _ => Err(LineFault::Bad),
     }
 }

@@ -1,4 +1,5 @@
-// The bench console: replays calls of devices and stores from standard input, a command a line, an answer a line.
+// The bench console: replays calls of devices, stores and ledgers from standard input, a command a line, an answer
+// a line.
 
 #![tactic(auto)]
 
@@ -12,6 +13,7 @@ mod card;
 mod command;
 mod desk;
 mod held;
+mod opened;
 mod serve;
 mod words;
 
@@ -65,14 +67,14 @@ fn obey(desk: &mut Desk, cards: &mut Cards, command: Command) -> anyhow::Result<
             Err(fault) => Err(fault.into()),
         },
         Command::Use(shape) => use_shape(desk, cards, shape),
-        // Calls of a device or a store, and the ends of what is not there.
+        // Calls of a device, a store or a ledger, and the ends of what is not there.
         _other => desk.say(&Refusal::NotNow),
     }
 }
 
 // Works through the input.
 fn work(desk: &mut Desk, cards: &mut Cards) -> anyhow::Result<()> {
-    // Counted, as in `serve::hold`.
+    // Counted, as in `opened::hold`.
     for _ in 0..u64::MAX {
         let Some(command) = desk.next_command()? else {
             return Ok(());

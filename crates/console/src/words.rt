@@ -1,4 +1,4 @@
-// The words of a command: numbers in decimal, bytes in hex, a list of codes.
+// The words of a command: numbers in decimal, bytes in hex, tags, a list of codes.
 use hex::FromHexError;
 use std::alloc::{AllocError, Global};
 use std::error::Error;
@@ -68,6 +68,14 @@ pub fn bytes(heap: Global, word: &str) -> Result<Vec<u8>, LineFault> {
         return Err(LineFault::Bad);
     }
     Ok(hex::decode(heap, word)?)
+}
+
+// A tag: 8 bytes.
+pub fn tag(heap: Global, word: &str) -> Result<[u8; 8], LineFault> {
+    bytes(heap, word)?
+        .as_slice()
+        .try_into()
+        .map_err(|_| LineFault::Bad)
 }
 
 // The codes of a power plan, with commas between; `-` stands for none.

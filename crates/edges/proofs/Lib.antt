@@ -4,3 +4,4 @@ pub mod Ranges
 pub mod Room
 pub mod Gaps
 pub mod Samples
+pub mod Books

@@ -1,6 +1,7 @@
--- The worked edges of a store.
+-- The worked edges.
 pub mod Sizes
 pub mod Ranges
 pub mod Room
 pub mod Gaps
+pub mod Books
 pub mod Worked

@@ -1,9 +1,10 @@
--- The worked edges of a store, as one statement.
+-- The worked edges, as one statement.
 use Rattle.std.specs.Prelude.{ℕ, ◌≤◌}
 use Rattle.device.specs.Disk.{Shown}
 use Rattle.edges.specs.Sizes.{RefusesSize, TakesSize}
 use Rattle.edges.specs.Ranges.{LastByteDeclared, RefusedAtTheEnd, CutInTwo}
 use Rattle.edges.specs.Room.{FifteenPass, ThenFull}
+use Rattle.edges.specs.Books.{InBucketFour, TwentyPass, TwentyOneShort}
 use Rattle.edges.specs.Gaps.{SpoiledBetween, NoLastPart, Ends, HomesRead}
 
 pub record WorkedEdges : Type 0 where
@@ -26,3 +27,8 @@ pub record WorkedEdges : Type 0 where
   -- Without its last part a transaction is none.
   pub no_last_part : (n : ℕ) (shows : ℕ → Shown) → NoLastPart n shows → Ends n shows 1 2
   pub sectors_with_no_last : (n : ℕ) → 160 ≤ n → (shows : ℕ → Shown) × NoLastPart n shows × HomesRead n shows
+  -- The tag of bytes 1 to 8 is in bucket 4.
+  pub in_bucket_four : InBucketFour
+  -- From a balance of 20, 20 can be paid and 21 can't.
+  pub twenty_pass : TwentyPass
+  pub twenty_one_short : TwentyOneShort

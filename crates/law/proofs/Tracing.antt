@@ -1,7 +1,7 @@
 -- The writes and barriers that a call made, from what its relation says of the device.
-use Rattle.std.proofs.Common.{◌≡◌, ℕ, ◌≤◌, Bool, true, false, cond, not, ◌&&◌, leb, ◌⊎◌, ◌≢◌, List, [], ◌∷◌, ◌++◌, length, Some, None, Ok, Err, Option, Result, sym, refl, ap, ◌∙◌, subst, inl, inr, ⊎_elim, arith}
+use Rattle.std.proofs.Common.{◌≡◌, ℕ, Bool, true, false, cond, not, ◌&&◌, leb, ◌⊎◌, List, [], ◌++◌, length, Some, None, Ok, Err, Option, Result, sym, refl, ap, ◌∙◌, subst, inl, inr, ⊎_elim, arith}
 use Rattle.arrayvec.specs.ArrayVec.{array_vec_len}
-use Rattle.std.proofs.lemmas.Bool.{and_from, and_left, and_right, le-leb, lt-leb}
+use Rattle.std.proofs.lemmas.Bool.{le-leb, lt-leb}
 use Rattle.device.specs.Disk.{Disk}
 use Rattle.device.specs.Trace.{Act, Done}
 use Rattle.image.specs.declared.run.Run.{Run}
@@ -12,7 +12,7 @@ use Rattle.transactions.specs.declared.token.Token.{Token}
 use Rattle.transactions.specs.Calls.{Commits, writing}
 use Rattle.transactions.specs.Rows.{first_fit, token_rows, commit_rows}
 use Rattle.transactions.specs.State.{spooled, own}
-use Rattle.transactions.specs.Truncation.{dirty_pages, due_pages, truncate_rows, truncation}
+use Rattle.transactions.specs.Truncation.{truncation}
 use Rattle.law.specs.declared.script.Deed.{Deed}
 use Rattle.law.specs.declared.script.Deed.TheVariants.{Begin, SetRange, Write, Commit, Abort}
 use Rattle.law.specs.declared.script.Call.{Call}
@@ -21,6 +21,7 @@ use Rattle.law.specs.declared.script.Slot.TheVariants.{First, Second}
 use Rattle.law.specs.Run.{Stepped}
 use Rattle.law.specs.Events.{Answer, Moment, moment, Acts, Reading, Flushing, Truncating, Traced, CutBefore, does_enter, does_truncate, fits_none, commit_plan, flush_plan, truncate_plan, deed_plan}
 use Rattle.law.proofs.Cuts.{cut_at}
+use Rattle.law.proofs.Truncated.{writes, idle_clean, idle_refused}
 use Rattle.law.proofs.Steps.{passing}
 
 -- some calls were made, and the device is e
@@ -118,39 +119,26 @@ flush_traced s s' d e a (Err f, _, inr (fits, some, c)) =
     let r = cut_at d e (writing s (spooled s)) c.origin c.cut in
     (r.0, subst (λ (x : List Act). Traced x d r.0 e) (sym plan) (inr (c.origin, r.1)))
 
--- A truncation where no row fits and some page is dirty, and any other.
-truncates : (s : State) (d : Disk) → first_fit (truncate_rows s (length (due_pages s d.shows))) ≡ None → dirty_pages s d.shows ≢ [] → truncate_plan s d.shows ≡ truncation s d.shows
-truncates s d passes some =
-    let fit = first_fit (truncate_rows s (length (due_pages s d.shows))) in
-    let pages = length (dirty_pages s d.shows) in
-    ap (λ (b : Bool). cond b (truncation s d.shows) []) (and_from (fits_none fit) (leb 1 pages) (ap fits_none passes) (le-leb 1 pages (at_least (dirty_pages s d.shows) some)))
-  where
-    at_least : (ps : List ℕ) → ps ≢ [] → 1 ≤ length ps
-    at_least [] h = absurd (h refl)
-    at_least (p ∷ ps) h = omega arith
-
-truncates_none : (s : State) (d : Disk) → does_truncate s d.shows ≡ false → truncate_plan s d.shows ≡ []
-truncates_none s d idle = ap (λ (b : Bool). cond b (truncation s d.shows) []) idle
+-- a truncation makes the calls of its plan where it writes
+truncate_if : (s : State) (d : Disk) (b : Bool) → does_truncate s d.shows ≡ b → truncate_plan s d.shows ≡ cond b (truncation s d.shows) []
+truncate_if s d b is = ap (λ (c : Bool). cond c (truncation s d.shows) []) is
 
 pub truncate_traced : (s s' : State) (d e : Disk) (a : Answer) → Truncating s d a s' e → (made : List Act) × (Traced (truncate_plan s d.shows) d made e ⊎ CutBefore s d made e)
 truncate_traced s s' d e a (Ok k, _, (passes, inl c)) =
-    let fit = first_fit (truncate_rows s (length (due_pages s d.shows))) in
-    let pages = length (dirty_pages s d.shows) in
-    let t = none_made (truncate_plan s d.shows) d e (truncates_none s d (and_right (fits_none fit) (leb 1 pages) (lt-leb 1 pages (omega (arith, ap length c.clean))))) c.device in
+    let t = none_made (truncate_plan s d.shows) d e (truncate_if s d false (idle_clean s d c.clean)) c.device in
     (t.0, inl t.1)
 truncate_traced s s' d e a (Ok k, _, (passes, inr c)) =
-    let t = all_made (truncate_plan s d.shows) (truncation s d.shows) d e (truncates s d passes c.some) c.done in
+    let t = all_made (truncate_plan s d.shows) (truncation s d.shows) d e (truncate_if s d true (writes s d passes c.some)) c.done in
     (t.0, inl t.1)
 truncate_traced s s' d e a (Err f, _, inl (fits, _, same)) =
-    let fit = first_fit (truncate_rows s (length (due_pages s d.shows))) in
-    let t = none_made (truncate_plan s d.shows) d e (truncates_none s d (and_left (fits_none fit) (leb 1 (length (dirty_pages s d.shows))) (ap fits_none fits))) same in
+    let t = none_made (truncate_plan s d.shows) d e (truncate_if s d false (idle_refused s d f fits)) same in
     (t.0, inl t.1)
 truncate_traced s s' d e a (Err f, _, inr c) =
     ⊎_elim
     (λ failed. ([], inr (refl, (c.origin, failed))))
     (λ k.
     let r = cut_at d e (truncation s d.shows) c.origin k.cut in
-    (r.0, inl (subst (λ (x : List Act). Traced x d r.0 e) (sym (truncates s d k.passes k.some)) (inr (c.origin, r.1)))))
+    (r.0, inl (subst (λ (x : List Act). Traced x d r.0 e) (sym (truncate_if s d true (writes s d k.passes k.some))) (inr (c.origin, r.1)))))
     c.cut
 
 -- one call of a script, by the case of the call

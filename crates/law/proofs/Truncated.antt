@@ -183,7 +183,29 @@ module _ (s : State) (d : Disk) (h : History) (r : Resting s.log.places d s h) (
       recovers s d h r calm free e w.plate
       (λ shows choice. (end + 1, end + 1, subst (λ (f : ℕ → Shown). OpensTo n f (end + 1) (end + 1) s.log.ordinal memory) (sym (fun_ext (λ i. w.quiet i (shows i) (choice i)))) (firm_opens n e.shows (end + 1) (end + 1) s.log.ordinal memory w.firm)))
 
--- where no row fits
+-- when a truncation writes, and when it doesn't
+
+abbrev fit : State → Disk → Option StoreFault
+fit s d = first_fit (truncate_rows s (length (due_pages s d.shows)))
+
+abbrev pages : State → Disk → ℕ
+pages s d = length (dirty_pages s d.shows)
+
+pub writes : (s : State) (d : Disk) → first_fit (truncate_rows s (length (due_pages s d.shows))) ≡ None → dirty_pages s d.shows ≢ [] → does_truncate s d.shows ≡ true
+writes s d passes some =
+    and_from (fits_none (fit s d)) (leb 1 (pages s d)) (ap fits_none passes) (le-leb 1 (pages s d) (at_least (dirty_pages s d.shows) some))
+  where
+    at_least : (ps : List ℕ) → ps ≢ [] → 1 ≤ length ps
+    at_least [] h = absurd (h refl)
+    at_least (p ∷ ps) h = omega arith
+
+pub idle_clean : (s : State) (d : Disk) → dirty_pages s d.shows ≡ [] → does_truncate s d.shows ≡ false
+idle_clean s d clean =
+    and_right (fits_none (fit s d)) (leb 1 (pages s d)) (lt-leb 1 (pages s d) (omega (arith, ap length clean)))
+
+pub idle_refused : (s : State) (d : Disk) (f : StoreFault) → first_fit (truncate_rows s (length (due_pages s d.shows))) ≡ Some f → does_truncate s d.shows ≡ false
+idle_refused s d f fits = and_left (fits_none (fit s d)) (leb 1 (pages s d)) (ap fits_none fits)
+
 none_of : (o : Option StoreFault) → fits_none o ≡ true → o ≡ None
 none_of None e = refl
 none_of (Some f) e = absurd (both_ways false refl e)
@@ -248,10 +270,9 @@ module _ (n : ℕ) (s s' : State) (d e : Disk) (h : History) (w : Sound n s d h)
   cut_stands : Made → Safe n e After
   cut_stands (inr (none, (o, f))) = subst (λ (g : History). Safe n e g) (sym (after_none none)) (safe_failed n d e o h (safe n s d h w) f.cut)
   cut_stands (inl traced) =
-      let fit = first_fit (truncate_rows s (length (due_pages s d.shows))) in
       ⊎_elim
       (λ (does : does_truncate s d.shows ≡ true).
-      let passes = none_of fit (and_parts (fits_none fit) (leb 1 (length (dirty_pages s d.shows))) does).0 in
+      let passes = none_of (fit s d) (and_parts (fits_none (fit s d)) (leb 1 (pages s d)) does).0 in
       traced_safe (clear s (length (due_pages s d.shows)) passes) (traced_if true does traced))
       (λ (idle : does_truncate s d.shows ≡ false).
       let t = traced_if false idle traced in
@@ -262,30 +283,20 @@ module _ (n : ℕ) (s s' : State) (d e : Disk) (h : History) (w : Sound n s d h)
   pub truncate_answers : (r : Result ℕ StoreFault) → Made → Truncates s d r s' e → TruncateKeeps (told_truncate r)
   truncate_answers (Ok k) traced (passes, inl c) =
       let on = awake s (busy s ∷ serials s 0 ∷ crowded s (length (due_pages s d.shows)) ∷ []) passes in
-      let pages = length (dirty_pages s d.shows) in
-      let fit = first_fit (truncate_rows s (length (due_pages s d.shows))) in
-      let is = after_none (nothing_made (and_right (fits_none fit) (leb 1 pages) (lt-leb 1 pages (omega (arith, ap length c.clean)))) traced) in (
+      let is = after_none (nothing_made (idle_clean s d c.clean) traced) in (
         λ j same. subst AllKept (sym is) (empty_kept runs_lay runs_fit runs_none n d s h (rests n s d h w on) c.empty),
         subst (λ (g : History). Sound n s' e g) (sym is) (same_stands n s s' d e h w c.state c.device),
       )
   truncate_answers (Ok k) traced (passes, inr c) =
       let free = clear s (length (due_pages s d.shows)) passes in
-      let pages = length (dirty_pages s d.shows) in
-      let fit = first_fit (truncate_rows s (length (due_pages s d.shows))) in
-      let does : does_truncate s d.shows ≡ true = and_from (fits_none fit) (leb 1 pages) (ap fits_none passes) (le-leb 1 pages (some (dirty_pages s d.shows) c.some)) in
-      let is = done_made free c.done (⊎_elim (λ t. inl (traced_if true does t)) (λ k. inr k) traced) in
+      let is = done_made free c.done (⊎_elim (λ t. inl (traced_if true (writes s d passes c.some) t)) (λ k. inr k) traced) in
       let left = truncate_done s d h (resting free.on) (w.free free.on free.free) free e s' c.done c.state in
       let rest = subst (λ (k : ℕ). Resting k e s' (all_kept h.entered)) (places free) left in (
         λ j same. subst AllKept (sym is) refl,
         subst (λ (g : History). Sound n s' e g) (sym is) (on_stands n s' e (all_kept h.entered) rest (λ _. ap declared c.state.image ∙ w.free free.on free.free)),
       )
-    where
-      some : (ps : List ℕ) → ps ≢ [] → 1 ≤ length ps
-      some [] h = absurd (h refl)
-      some (p ∷ ps) h = omega arith
   truncate_answers (Err f) traced (inl (fits, state, device)) =
-      let fit = first_fit (truncate_rows s (length (due_pages s d.shows))) in
-      let is = after_none (nothing_made (and_left (fits_none fit) (leb 1 (length (dirty_pages s d.shows))) (ap fits_none fits)) traced) in (
+      let is = after_none (nothing_made (idle_refused s d f fits) traced) in (
         λ j same. absurd (let z : ◌≡◌ {A = ℕ} 0 1 = cc in omega arith),
         subst (λ (g : History). Sound n s' e g) (sym is) (same_stands n s s' d e h w state device),
       )

@@ -4,6 +4,7 @@ use mathlib.Core.Path.{fun_ext}
 use mathlib.Core.Logic.{∥∥₁_map}
 use Rattle.device.specs.Disk.{Disk}
 use Rattle.device.specs.Trace.{Act}
+use Rattle.image.specs.Calls.{declared}
 use Rattle.transactions.specs.declared.fault.StoreFault.{StoreFault}
 use Rattle.transactions.specs.declared.log.Log.{Log}
 use Rattle.transactions.specs.declared.state.State.{State}
@@ -121,3 +122,18 @@ change_stepped c flush fit s s' d e r proper plain some closed (inr (on-is, does
     ∥∥₁_map (some on-is) (λ k.
     let did = changed c flush k.0 fit s s' d e proper k.1 r (plain k.0) (does k.0 k.1) in
     (k.0, did.0, inl (on-is, k.1, did.1), closed))
+
+-- A step whose ledger keeps in its own words that it was found a ledger, and whose call and answer have other names.
+pub stepped_so : (call call' : Call) (a a' : Answer) (fit fit' : Bool) (s s' : State) (d e : Disk) → call ≡ call' → a ≡ a' → fit' ≡ fit → Stepped call' (moment fit s d) a' (moment fit s' e) → Stepped call (moment fit s d) a (moment fit' s' e)
+stepped_so call call' a a' fit fit' s s' d e is told same h =
+    subst (λ (x : Call). Stepped x (moment fit s d) a (moment fit' s' e)) (sym is)
+    (subst (λ (x : Answer). Stepped call' (moment fit s d) x (moment fit' s' e)) (sym told)
+    (subst (λ (x : Bool). Stepped call' (moment fit s d) a' (moment x s' e)) (sym same) h))
+
+-- The same of a call that names its change and its ledger in its own way.
+pub change_step : (c c' : Change) (flush fit fit' : Bool) (s s' : State) (d e : Disk) (r : Result ℕ LedgerFault) (a : Answer) → c ≡ c' → a ≡ told_ordinal r → fit' ≡ fit → Proper c'
+    → ((b : Book) (o : ℕ) → told_as c' b o ≡ told.Changed o) → (on fit s ≡ true → ∥ ((b : Book) × HoldsBook s b) ∥₁) → (on fit' s' ≡ true → declared s'.image ≡ [])
+    → OnBook (rows_of c') (edits_of c') (book_after c') fit s d flush r s' e → Stepped (Make c flush) (moment fit s d) a (moment fit' s' e)
+change_step c c' flush fit fit' s s' d e r a is told same proper plain some closed does =
+    stepped_so (Make c flush) (Make c' flush) a (told_ordinal r) fit fit' s s' d e (ap (λ (x : Change). Make x flush) is) told same
+    (change_stepped c' flush fit s s' d e r proper plain some (λ k. closed (ap (λ (x : Bool). on x s') same ∙ k)) does)

@@ -3,6 +3,7 @@ use Rattle.std.proofs.Common.{◌≡◌, ℕ, ◌+◌, ◌≤◌, Bool, true, fa
 use Rattle.device.specs.Disk.{Disk}
 use Rattle.image.specs.Calls.{declared}
 use Rattle.transactions.specs.declared.fault.StoreFault.{StoreFault}
+use Rattle.transactions.specs.declared.log.Log.{Log}
 use Rattle.transactions.specs.declared.state.State.{State}
 use Rattle.transactions.specs.Rows.{first_fit, token_rows}
 use Rattle.transactions.specs.Calls.{Commits, CommitsParts}
@@ -16,10 +17,12 @@ use Rattle.law.specs.Events as below
 use Rattle.law.specs.Law as law
 use Rattle.law.proofs.Standing.{rests, begins}
 use Rattle.law.proofs.Steps as kept
+use Rattle.law.proofs.Tracing.{stepped_first}
 use Rattle.book.specs.Layout.{byte_in}
 use Rattle.book.specs.Book.{Book, Holds, new_book}
 use Rattle.book.specs.Edits.{make_edits}
-use Rattle.ledger_law.specs.Events.{Moment, Below, committing, token}
+use Rattle.ledger.specs.Calls.{Made}
+use Rattle.ledger_law.specs.Events.{Moment, moment, Below, committing, token, Closed}
 use Rattle.ledger_law.specs.Law.{Standing}
 use Rattle.ledger_law.specs.Keeping.{Books, Keeps}
 use Rattle.ledger_law.specs.Run.{FromMake, standing_made}
@@ -96,3 +99,28 @@ module _ (d : Disk) (m : Moment) (did : Below) (x : FromMake d m did) where
   pub made_keeps : Keeps n m (standing_made did)
   made_keeps =
       subst (λ (y : Below). Keeps n m (standing_made y)) (sym x.is) (record { sound = took.1; some = some; books = books; closed = x.closed })
+
+-- What a make answers that succeeds is the start of a run.
+pub made_from : (d e : Disk) (fit : Bool) (s : State) → fit ≡ true → Closed (moment fit s e) → Made d s e → (did : Below) × FromMake d (moment fit s e) did
+made_from d e fit s is closed x =
+    let p = x.changes.0 in
+    let prepares = x.changes.1 in
+    let same : x.new.log.ordinal + 1 ≡ p.log.ordinal + 1 = ap (λ (l : Log). l.ordinal + 1) (sym prepares.log) in
+    let commits = subst (λ (k : ℕ). Commits p x.formatted k true (Ok (1, 52)) s e) same x.changes.2 in
+    let stepped =
+    stepped_first (Commit true) p s x.formatted e (Some (token (p.log.ordinal + 1))) None None (below.told_commit (Ok (1, 52))) (refl, (Ok (1, 52), refl, commits)) in (
+      committing p x.formatted true (Ok (1, 52)) s e stepped.0,
+      record {
+        new = x.new;
+        formatted = x.formatted;
+        format = x.format;
+        prepared = p;
+        prepares = prepares;
+        made = stepped.0;
+        is = refl;
+        happens = stepped.1;
+        holds = x.holds;
+        closed = closed;
+        fit = is;
+      },
+    )

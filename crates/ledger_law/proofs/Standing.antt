@@ -59,19 +59,19 @@ books_more ts issued t x w b holds total =
     record {
       long = omega (arith, long, long', w.long);
       each = λ j from to. ⊎_elim
-      (λ (k : j < length ts + 1).
-      let inside : j ≤ length ts = omega (arith, k) in
-      let e = w.each j from inside in (
-        e.0,
-        subst (λ us. Holds (made_of us) e.0) (sym (take-append-le j ts (t ∷ []) inside)) e.1,
-        e.2 ∙ ap sum (sym (take-append-le j issued (x ∷ []) (omega (arith, inside, w.long)))),
-      ))
-      (λ (k : length ts + 1 ≤ j). (
-        b,
-        subst (λ us. Holds (made_of us) b) (sym (take_all j (ts ++ (t ∷ [])) (omega (arith, long, k)))) holds,
-        total ∙ sym (sum_by_push (λ y. y) issued x) ∙ ap sum (sym (take_all j (issued ++ (x ∷ [])) (omega (arith, long', w.long, k)))),
-      ))
-      (cases_lt j (length ts + 1));
+          (λ (k : j < length ts + 1).
+          let inside : j ≤ length ts = omega (arith, k) in
+          let e = w.each j from inside in (
+            e.0,
+            subst (λ us. Holds (made_of us) e.0) (sym (take-append-le j ts (t ∷ []) inside)) e.1,
+            e.2 ∙ ap sum (sym (take-append-le j issued (x ∷ []) (omega (arith, inside, w.long)))),
+          ))
+          (λ (k : length ts + 1 ≤ j). (
+            b,
+            subst (λ us. Holds (made_of us) b) (sym (take_all j (ts ++ (t ∷ [])) (omega (arith, long, k)))) holds,
+            total ∙ sym (sum_by_push (λ y. y) issued x) ∙ ap sum (sym (take_all j (issued ++ (x ∷ [])) (omega (arith, long', w.long, k)))),
+          ))
+          (cases_lt j (length ts + 1));
     }
 
 -- the same where a commit may have entered its transaction, or not
@@ -89,12 +89,12 @@ books_found k ts issued inside w =
     record {
       long = omega (arith, long, long');
       each = λ j from to.
-      let near : j ≤ k = omega (arith, to, long) in
-      let e = w.each j from (omega (arith, near, inside)) in (
-        e.0,
-        subst (λ us. Holds (made_of us) e.0) (sym (take-take j k ts near)) e.1,
-        e.2 ∙ ap sum (sym (take-take j k issued near)),
-      );
+          let near : j ≤ k = omega (arith, to, long) in
+          let e = w.each j from (omega (arith, near, inside)) in (
+            e.0,
+            subst (λ us. Holds (made_of us) e.0) (sym (take-take j k ts near)) e.1,
+            e.2 ∙ ap sum (sym (take-take j k issued near)),
+          );
     }
 
 -- A transaction that was prepared leaves what stands.

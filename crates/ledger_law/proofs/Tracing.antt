@@ -3,6 +3,7 @@ use Rattle.std.proofs.Common.{◌≡◌, ℕ, ◌+◌, Bool, true, false, List, 
 use mathlib.Core.Logic.{∥∥₁_map}
 use Rattle.std.proofs.lemmas.Bool.{cases_Bool}
 use Rattle.device.specs.Disk.{Disk}
+use Rattle.image.specs.Calls.{declared}
 use Rattle.transactions.specs.declared.fault.StoreFault.{StoreFault}
 use Rattle.transactions.specs.declared.state.State.{State}
 use Rattle.law.specs.Events as below
@@ -12,13 +13,14 @@ use Rattle.book.specs.declared.fault.LedgerFault.TheVariants.{Store}
 use Rattle.book.specs.declared.records.Entry.{Entry}
 use Rattle.book.specs.Book.{Book, new_book}
 use Rattle.ledger.specs.Calls.{HoldsBook, on, power_off, CollectsFrom, Collects, Finds, Balances, from_store, FlushesLedger, TruncatesLedger, OpensLedger}
+use Rattle.ledger_law.specs.declared.script.Change.{Change}
 use Rattle.ledger_law.specs.declared.script.Change.TheVariants.{Collect}
 use Rattle.ledger_law.specs.declared.script.Call.{Call}
 use Rattle.ledger_law.specs.declared.script.Call.TheVariants.{Make, Find, Balance, Flush, Truncate, Reopen}
 use Rattle.ledger_law.specs.declared.script.Told.TheVariants as told
 use Rattle.ledger_law.specs.Events.{Answer, Moment, moment, Below, Still, Works, Reopened, reopening, flushing, truncating, told_front, told_flush, told_truncate, Closed}
 use Rattle.ledger_law.specs.Run.{Stepped}
-use Rattle.ledger_law.proofs.Changing.{refused, undone, done, Did, asleep_stepped}
+use Rattle.ledger_law.proofs.Changing.{refused, undone, done, Did, asleep_stepped, stepped_so}
 
 -- There is a book in the memory of a ledger that is on.
 abbrev pub Some-book : Bool → State → Type 0
@@ -45,6 +47,12 @@ collect_stepped a flush fit s s' d e r some closed (inr (on-is, does)) =
     ∥∥₁_map (some on-is) (λ k.
     let did = collected a flush k.0 fit s s' d e k.1 r (does k.0 k.1) in
     (k.0, did.0, inl (on-is, k.1, did.1), closed))
+
+pub collect_step : (c : Change) (account : ℕ) (flush fit fit' : Bool) (s s' : State) (d e : Disk) (r : Result (ℕ × Entry) LedgerFault) (a : Answer) → c ≡ Collect account → a ≡ told_collect r → fit' ≡ fit
+    → Some-book fit s → (on fit' s' ≡ true → declared s'.image ≡ []) → Collects account fit s d flush r s' e → Stepped (Make c flush) (moment fit s d) a (moment fit' s' e)
+collect_step c account flush fit fit' s s' d e r a is told same some closed does =
+    stepped_so (Make c flush) (Make (Collect account) flush) a (told_collect r) fit fit' s s' d e (ap (λ (x : Change). Make x flush) is) told same
+    (collect_stepped account flush fit s s' d e r some (λ k. closed (ap (λ (x : Bool). on x s') same ∙ k)) does)
 
 -- finding a tag, and a balance
 
@@ -88,8 +96,7 @@ pub flush_stepped : (fit : Bool) (s s' : State) (d e : Disk) (r : Result ℕ Led
 flush_stepped fit s s' d e r some closed (inl x) = asleep_stepped Flush told_flushing fit s s' d e r refl (λ m m' b is still. (is, still)) closed x
 flush_stepped fit s s' d e r some closed (inr (on-is, (r', is, does))) =
     ∥∥₁_map (some on-is) (λ k.
-    let did = stepped_flush s s' d e None None (below.told_flush r') (r', refl, does) in
-    (
+    let did = stepped_flush s s' d e None None (below.told_flush r') (r', refl, does) in (
       k.0,
       Some (flushing s d r' s' e did.0),
       inl (on-is, k.1, record { result = r'; made = did.0; is = refl; happens = did.1; answers = ap told_flushing is ∙ flush_told r'; fit = refl }),
@@ -109,8 +116,7 @@ pub truncate_stepped : (fit : Bool) (s s' : State) (d e : Disk) (r : Result ℕ 
 truncate_stepped fit s s' d e r some closed (inl x) = asleep_stepped Truncate told_truncating fit s s' d e r refl (λ m m' b is still. (is, still)) closed x
 truncate_stepped fit s s' d e r some closed (inr (on-is, (r', is, does))) =
     ∥∥₁_map (some on-is) (λ k.
-    let did = stepped_truncate s s' d e None None (below.told_truncate r') (r', refl, does) in
-    (
+    let did = stepped_truncate s s' d e None None (below.told_truncate r') (r', refl, does) in (
       k.0,
       Some (truncating s d r' s' e did.0),
       inl (on-is, k.1, record { result = r'; made = did.0; is = refl; happens = did.1; answers = ap told_truncating is ∙ truncate_told r'; fit = refl }),

@@ -2,6 +2,9 @@
 
 #![tactic(auto)]
 
+mod run;
 mod script;
+mod whole;
 
 pub use script::{Answer, Call, Change, Told};
+pub use whole::{Script, work};

@@ -22,7 +22,7 @@ pub fn work<D: Device>(
     store_answers: &mut [law::Answer],
     ledger_answers: &mut [Answer],
 ) -> (D, Result<usize, LedgerFault>)
-    ensures { Entire (D.Device.disk device) script store_answers.old ledger_answers.old result.1 store_answers.new ledger_answers.new (D.Device.disk result.0) }
+    ensures { Entire (D.Device.disk device) script.entry store_answers.old ledger_answers.old result.1 store_answers.new ledger_answers.new (D.Device.disk result.0) }
 {
     match script {
         Script::Store(calls) => {

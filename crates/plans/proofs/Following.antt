@@ -1,9 +1,9 @@
 -- What a walk along a chain finds, for any kind of record.
-use Rattle.std.proofs.Common.{◌≡◌, ℕ, ◌+◌, ◌<◌, ◌≤◌, ◌⊎◌, Bool, true, List, [], ◌∷◌, length, take, drop, Some, None, Option, refl, sym, ap, ◌∙◌, subst, ⊎_elim, arith}
+use Rattle.std.proofs.Common.{◌≡◌, ℕ, ◌+◌, ◌<◌, ◌≤◌, ◌⊎◌, true, List, [], ◌∷◌, length, take, drop, Some, None, refl, sym, ap, ◌∙◌, subst, ⊎_elim, arith}
 use Rattle.record.specs.Fields.{field}
-use Rattle.book.specs.Layout.{byte_in, Stands, cell_at, Chain, first_of}
+use Rattle.book.specs.Layout.{byte_in, Stands, cell_at, first_of}
 use Rattle.book.specs.Book.{At}
-use Rattle.plans.specs.Walks.{cells_with, Leads, Placed, first_such}
+use Rattle.plans.specs.Walks.{cells_with, Leads, first_such}
 use Rattle.plans.proofs.Standing.{stands_rest, stands_part, stands_index}
 
 content_read : (m : List ℕ) (n kind : ℕ) (content : List ℕ) → Stands (byte_in m) (cell_at n + 2) (kind ∷ 0 ∷ content) → length content ≡ 20 → n ≤ 200 → length m ≡ 6144

@@ -1,16 +1,17 @@
 -- What the free chain, a bucket and an account's chain of a ledger are for a walk.
-use Rattle.std.proofs.Common.{◌≡◌, ℕ, ◌+◌, ◌<◌, ◌≤◌, ◌≢◌, Bool, true, false, cond, List, [], ◌∷◌, length, map, bytes_eq, Some, None, Option, refl, sym, ap, ◌∙◌, subst, arith}
+use Rattle.std.proofs.Common.{◌≡◌, ℕ, ◌<◌, ◌≤◌, ◌≢◌, Bool, true, false, cond, List, [], ◌∷◌, length, map, bytes_eq, Some, None, Option, refl, sym, ap, ◌∙◌, subst, arith}
 use Rattle.record.specs.Fields.{field}
 use Rattle.book.specs.declared.records.Tag.{Tag}
 use Rattle.book.specs.declared.records.Entry.{Entry}
 use Rattle.book.specs.Records.{bucket_of, tag_kind, tag_content, TagFits, entry_kind, entry_content, EntryFits}
 use Rattle.book.specs.Layout.{byte_in, head_at, bucket_chain, cell_at, Chain, first_of}
-use Rattle.book.specs.Book.{Book, Holds, At, IsAccount, GoodTags, GoodEntries, free_cell, tag_cell, entry_cell, cells_of}
-use Rattle.book.specs.Rows.{is_empty, account_in, account_of}
-use Rattle.book.specs.Edits.{Place, place_in, place_of, head_or_0, rest_of}
+use Rattle.book.specs.Book.{Book, Holds, At, IsAccount, GoodTags, GoodEntries, free_cell, tag_cell}
+use Rattle.book.specs.Rows.{is_empty, account_in}
+use Rattle.book.specs.Edits.{Place, place_in, head_or_0, rest_of}
 use Rattle.book.proofs.Threads.{cells_tags, cells_account}
+use Rattle.book.proofs.Beside.{first_free}
 use Rattle.plans.specs.declared.found.Found.{Found}
-use Rattle.plans.specs.Walks.{cells_with, Leads, AllFit, Placed, first_such, placed, seen, Sought}
+use Rattle.plans.specs.Walks.{cells_with, Leads, AllFit, Placed, first_such, seen, Sought}
 use Rattle.plans.proofs.Standing.{stands_index}
 use Rattle.plans.proofs.Following.{same_first}
 
@@ -25,10 +26,6 @@ module _ (m : List ℕ) (whole : length m ≡ 6144) where
   pub free_inside : (ns : List ℕ) → Chain (byte_in m) 8 (map free_cell ns) → field 8 2 m ≤ 200
   free_inside [] h = let is = stands_index m 8 [] h (omega arith) in omega arith
   free_inside (n ∷ ns) h = let is = stands_index m 8 (map free_cell (n ∷ ns)) h (omega arith) in omega (arith, h.1.1)
-
-  first_free : (ns : List ℕ) → first_of (map free_cell ns) ≡ head_or_0 ns
-  first_free [] = refl
-  first_free (n ∷ ns) = refl
 
   pub some_free : (ns : List ℕ) → Chain (byte_in m) 8 (map free_cell ns) → field 8 2 m ≢ 0
       → (is_empty ns ≡ false) × (field 8 2 m ≡ head_or_0 ns) × (field (cell_at (field 8 2 m)) 2 m ≡ head_or_0 (rest_of ns))

@@ -1,6 +1,6 @@
 -- A walk along a chain that looks for a record.
-use Rattle.std.proofs.Common.{◌≡◌, ℕ, ◌+◌, ◌<◌, ◌≤◌, Bool, true, false, cond, List, [], ◌∷◌, length, map, Some, None, Option, Bor, refl, sym, ap, ◌∙◌, subst, arith}
-use Rattle.book.specs.Layout.{cell_at, cell, first_of}
+use Rattle.std.proofs.Common.{◌≡◌, ℕ, ◌+◌, ◌≤◌, Bool, true, false, List, [], ◌∷◌, length, Some, None, Bor, refl, sym, ap, ◌∙◌, subst, arith}
+use Rattle.book.specs.Layout.{cell_at, first_of}
 use Rattle.book.specs.Book.{At}
 use Rattle.plans.specs.Walks.{cells_with, Leads, Placed, first_such}
 use Rattle.plans.proofs.Shortness.{chain_short}

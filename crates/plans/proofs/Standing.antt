@@ -1,10 +1,11 @@
 -- What stands in the memory is what is read there.
-use Rattle.std.proofs.Common.{◌≡◌, ℕ, zero, suc, ◌+◌, ◌*◌, ◌/◌, ◌%◌, ◌^◌, ◌<◌, ◌≤◌, List, [], ◌∷◌, length, get_or, take, drop, map, refl, sym, ap, ◌∙◌, inl, inr, ⊎_elim, ◌⊎◌, arith, add-one, add-zero, drop-cons}
-use Rattle.std.proofs.lemmas.Bool.{cases_lt}
+use Rattle.std.proofs.Common.{◌≡◌, ℕ, suc, ◌+◌, ◌^◌, ◌<◌, ◌≤◌, List, [], ◌∷◌, length, get_or, take, drop, refl, sym, ap, ◌∙◌, arith, add-one, add-zero, drop-cons}
 use Rattle.record.specs.Fields.{value, digits, field}
 use Rattle.record.proofs.Numbers.{value_digits}
 use Rattle.book.specs.Layout.{byte_in, Stands, balance_at, Cell, Chain, first_of}
-use Rattle.book.specs.Book.{Book, IsAccount, Money, Holds, sum_to}
+use Rattle.book.specs.Book.{Book, IsAccount, Holds}
+use Rattle.book.proofs.Standing.{digits_length}
+use Rattle.book.proofs.Sums.{sum_least}
 
 pub stands_rest : (f : ℕ → ℕ) (a x : ℕ) (xs : List ℕ) → Stands f a (x ∷ xs) → Stands f (a + 1) xs
 stands_rest f a x xs h i k =
@@ -21,15 +22,10 @@ stands_part m (x ∷ xs) a h k =
     let rest' : take (length xs) (drop (suc a) m) ≡ xs = rw add-one at rest in
     rw (drop-cons m a 0, first, rest')
 
-pub length_digits : (n x : ℕ) → length (digits n x) ≡ n
-unfolding digits
-length_digits zero x = refl
-length_digits (suc n) x = ap suc (length_digits n (x / 256))
-
 -- and so are numbers
 pub stands_field : (m : List ℕ) (n a x : ℕ) → Stands (byte_in m) a (digits n x) → a + n ≤ length m → x < 256 ^ n → field a n m ≡ x
 stands_field m n a x h k l =
-    let e = length_digits n x in
+    let e = digits_length n x in
     let p = stands_part m (digits n x) a h (omega arith) in
     ap (λ i. value (take i (drop a m))) (sym e) ∙ ap value p ∙ value_digits n x l
 
@@ -37,19 +33,6 @@ stands_field m n a x h k l =
 pub stands_index : (m : List ℕ) (a : ℕ) (cs : List Cell) → Chain (byte_in m) a cs → a + 2 ≤ length m → field a 2 m ≡ first_of cs
 stands_index m a [] h k = stands_field m 2 a 0 h k (omega arith)
 stands_index m a (c ∷ cs) h k = stands_field m 2 a c.number h.0 k (omega (arith, h.1))
-
--- a balance is part of what is issued
-pub balance_part : (n : ℕ) (f : ℕ → ℕ) (a : ℕ) → 1 ≤ a → a ≤ n → f a ≤ sum_to n f
-unfolding sum_to
-balance_part zero f a h k = absurd (omega arith)
-balance_part (suc n) f a h k =
-    ⊎_elim
-    (λ (l : a ≤ n). omega (arith, balance_part n f a h l))
-    (λ (l : n < a). let e : a ≡ suc n = omega arith in rw e (omega arith))
-    (cases_le a n)
-  where
-    cases_le : (a n : ℕ) → (a ≤ n) ⊎ (n < a)
-    cases_le a n = ⊎_elim inr inl (cases_lt n a)
 
 -- in a ledger a balance and the total are read
 pub held_total : (m : List ℕ) (b : Book) → Holds (byte_in m) b → length m ≡ 6144 → field 0 8 m ≡ b.issued
@@ -61,5 +44,5 @@ pub held_balance : (m : List ℕ) (b : Book) (a : ℕ) → Holds (byte_in m) b �
 held_balance m b a h k l =
     let bound = h.money.bound in
     let sum = h.money.sum in
-    let below = balance_part 64 b.balances a l.0 l.1 in
+    let below = sum_least 64 a b.balances l.0 l.1 in
     stands_field m 8 (balance_at a) (b.balances a) (h.money.balance a l) (omega arith) (omega arith)

@@ -1,20 +1,19 @@
 -- What a change of a chain writes in a ledger, in the words of its book.
-use Rattle.std.proofs.Common.{◌≡◌, ℕ, ◌+◌, ◌-◌, ◌<◌, ◌≤◌, Bool, true, false, not, ◌&&◌, nat_le, List, [], ◌∷◌, ◌++◌, length, map, Some, None, Option, refl, sym, ap, ◌∙◌, subst, arith}
+use Rattle.std.proofs.Common.{◌≡◌, ℕ, ◌<◌, Bool, true, false, not, ◌&&◌, nat_le, List, [], ◌∷◌, length, map, Some, None, Option, refl, sym, ap, ◌∙◌, arith}
 use Rattle.std.proofs.lemmas.Bool.{le-leb}
 use Rattle.record.specs.Fields.{field}
 use Rattle.book.specs.declared.records.Entry.{Entry}
-use Rattle.book.specs.Layout.{byte_in, head_at, cell_at, Cell, Chain, first_of}
+use Rattle.book.specs.Layout.{byte_in, head_at, Cell, first_of}
 use Rattle.book.specs.Book.{Book, Holds, At, IsAccount, free_cell, entry_cell, cells_of}
 use Rattle.book.specs.Rows.{is_empty, is_account}
-use Rattle.book.specs.Edits.{Edit, Place, edit, head_or_0, rest_of, put_in_front, unlink, front_of, collect_edits}
+use Rattle.book.specs.Edits.{head_or_0, rest_of, put_in_front, unlink, front_of}
 use Rattle.book.proofs.Places.{head_within}
 use Rattle.book.proofs.Threads.{cells_account}
 use Rattle.book.proofs.Beside.{first_free}
 use Rattle.plans.specs.declared.found.Found.{Found}
 use Rattle.plans.specs.Putting.{putting, taking}
-use Rattle.plans.specs.Walks.{cells_with, Placed, first_such}
+use Rattle.plans.specs.Walks.{cells_with, Placed, first_such, placed, seen, Fronted}
 use Rattle.plans.proofs.Standing.{stands_index}
-use Rattle.plans.proofs.Following.{same_first}
 
 module _ (m : List ℕ) (b : Book) (h : Holds (byte_in m) b) (whole : length m ≡ 6144) where
   head_read : (c : ℕ) → c < 81 → field (head_at c) 2 m ≡ first_of (cells_of b c)
@@ -31,11 +30,11 @@ module _ (m : List ℕ) (b : Book) (h : Holds (byte_in m) b) (whole : length m �
       ap (taking link n next) (stands_index m 8 (map free_cell b.free) (h.chains.chain 0 (omega arith)) (omega arith) ∙ first_free b.free)
 
 -- the front entry of an account
-pub no_front : (link : ℕ) (xs : List (At Entry)) → None ≡ first_such (λ _. true) link xs → is_empty xs ≡ true
+no_front : (link : ℕ) (xs : List (At Entry)) → None ≡ first_such (λ _. true) link xs → is_empty xs ≡ true
 no_front link [] e = refl
 no_front link (x ∷ xs) e = cc
 
-record Fronted (link : ℕ) (p : Placed Entry) (xs : List (At Entry)) : Type 0 where
+record InFront (link : ℕ) (p : Placed Entry) (xs : List (At Entry)) : Type 0 where
   pub link_is : p.place.link ≡ link
   pub number : p.place.number ≡ first_of (map entry_cell xs)
   pub next : p.place.next ≡ first_of (rest_of (map entry_cell xs))
@@ -46,9 +45,9 @@ entry_next : (xs : List (At Entry)) → first_of (cells_with 0 (λ _. []) xs) �
 entry_next [] = refl
 entry_next (x ∷ xs) = refl
 
-fronted : (link : ℕ) (p : Placed Entry) (xs : List (At Entry)) → Some p ≡ first_such (λ _. true) link xs → Fronted link p xs
-fronted link p [] e = cc
-fronted link p (x ∷ xs) e =
+in_front : (link : ℕ) (p : Placed Entry) (xs : List (At Entry)) → Some p ≡ first_such (λ _. true) link xs → InFront link p xs
+in_front link p [] e = cc
+in_front link p (x ∷ xs) e =
     let q : Placed Entry = record { place = record { link = link; number = x.number; next = first_of (cells_with 0 (λ _. []) xs) }; item = x.item } in
     let same : p ≡ q = cc in
     record {
@@ -60,23 +59,19 @@ fronted link p (x ∷ xs) e =
     }
 
 -- collecting takes it out
-pub record Collects (b : Book) (a link n next : ℕ) (item : Entry) : Type 0 where
-  pub edits : unlink b link n next ≡ collect_edits b a
-  pub front : front_of (b.entries a) ≡ Some item
-  pub some : is_empty (b.entries a) ≡ false
-
-pub collects : (b : Book) (a : ℕ) (p : Placed Entry) → IsAccount a → Some p ≡ first_such (λ _. true) (head_at a) (b.entries a)
-    → Collects b a p.place.link p.place.number p.place.next p.item
-collects b a p i e =
-    let x = fronted (head_at a) p (b.entries a) e in
+pub fronts : (b : Book) (a : ℕ) (r : Option (Found Entry)) → IsAccount a → seen r ≡ first_such (λ _. true) (head_at a) (b.entries a) → Fronted b a r
+fronts b a None i e = no_front (head_at a) (b.entries a) e
+fronts b a (Some r) i e =
+    let x = in_front (head_at a) (placed r) (b.entries a) e in
     let cells : map entry_cell (b.entries a) ≡ cells_of b a = sym (cells_account b a i) in
-    let number : p.place.number ≡ first_of (cells_of b a) = x.number ∙ ap first_of cells in
-    let next : p.place.next ≡ first_of (rest_of (cells_of b a)) = x.next ∙ ap (λ (cs : List Cell). first_of (rest_of cs)) cells in
-    record {
-      edits = ap (λ l. unlink b l p.place.number p.place.next) x.link_is ∙ ap (λ n. unlink b (head_at a) n p.place.next) number ∙ ap (unlink b (head_at a) (first_of (cells_of b a))) next;
-      front = x.item;
-      some = x.some;
-    }
+    let number : r.number ≡ first_of (cells_of b a) = x.number ∙ ap first_of cells in
+    let next : r.next ≡ first_of (rest_of (cells_of b a)) = x.next ∙ ap (λ (cs : List Cell). first_of (rest_of cs)) cells in (
+      x.some,
+      x.item,
+      ap (λ (l : ℕ). unlink b l r.number r.next) x.link_is
+          ∙ ap (λ (n : ℕ). unlink b (head_at a) n r.next) number
+          ∙ ap (λ (n : ℕ). unlink b (head_at a) (first_of (cells_of b a)) n) next,
+    )
 
 pub not_account : (a : ℕ) → IsAccount a → not (is_account a) ≡ true → ⊥
 not_account a i e = go (nat_le 1 a) (nat_le a 64) (le-leb 1 a i.0) (le-leb a 64 i.1) e

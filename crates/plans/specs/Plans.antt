@@ -1,5 +1,5 @@
 -- What a plan puts into the memory, and what the plan of a change is.
-use Rattle.std.specs.Prelude.{◌≡◌, ℕ, ◌^◌, ◌≤◌, Bool, true, false, List, [], ◌∷◌, map, Some, None, Ok, Err, Option, Result}
+use Rattle.std.specs.Prelude.{◌≡◌, ℕ, ◌^◌, ◌≤◌, true, false, List, [], ◌∷◌, map, Some, None, Ok, Err, Option, Result}
 use Rattle.book.specs.declared.records.Entry.{Entry}
 use Rattle.book.specs.declared.fault.LedgerFault.{LedgerFault}
 use Rattle.book.specs.Book.{Book, Holds}

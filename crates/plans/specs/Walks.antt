@@ -1,14 +1,15 @@
 -- What a walk along a chain finds.
-use Rattle.std.specs.Prelude.{◌≡◌, ℕ, ◌+◌, ◌<◌, ◌≤◌, Bool, true, false, cond, List, [], ◌∷◌, map, Some, None, Ok, Err, Option, Result}
+use Rattle.std.specs.Prelude.{◌≡◌, ℕ, ◌<◌, ◌≤◌, Bool, true, false, cond, List, [], ◌∷◌, map, Some, None, Ok, Err, Option, Result}
 use Rattle.book.specs.declared.fault.LedgerFault.{LedgerFault}
 use Rattle.book.specs.declared.fault.LedgerFault.TheVariants.{NoCell, Unknown}
 use Rattle.book.specs.declared.records.Tag.{Tag}
+use Rattle.book.specs.declared.records.Entry.{Entry}
 use Rattle.book.specs.Records.{bucket_of}
 use Rattle.book.specs.Layout.{cell_at, Cell, cell, bucket_chain, first_of}
 use Rattle.book.specs.Layout as layout
 use Rattle.book.specs.Book.{Book, At}
 use Rattle.book.specs.Rows.{account_of, is_empty}
-use Rattle.book.specs.Edits.{Place, place_of, head_or_0, rest_of}
+use Rattle.book.specs.Edits.{Place, place_of, head_or_0, rest_of, unlink, front_of, collect_edits}
 use Rattle.plans.specs.declared.chains.Chain.{Chain}
 use Rattle.plans.specs.declared.chains.Chain.TheVariants.{Free, Account, Bucket}
 use Rattle.plans.specs.declared.found.Found.{Found}
@@ -72,3 +73,8 @@ Sought b id (Some r) = (place_of b id ≡ Some (placed r).place) × (account_of 
 abbrev pub Known : Book → List ℕ → Result ℕ LedgerFault → Type 0
 Known b id (Ok a) = account_of b id ≡ Some a
 Known b id (Err f) = (account_of b id ≡ None) × (f ≡ Unknown (bucket_of id))
+
+-- The front entry of an account, which a collection takes out.
+abbrev pub Fronted : Book → ℕ → Option (Found Entry) → Type 0
+Fronted b a None = is_empty (b.entries a) ≡ true
+Fronted b a (Some r) = (is_empty (b.entries a) ≡ false) × (front_of (b.entries a) ≡ Some r.record) × (unlink b r.link r.number r.next ≡ collect_edits b a)

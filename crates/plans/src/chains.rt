@@ -1,6 +1,6 @@
 // The chains of cells, and what stands where in the memory.
-ghost use Rattle.std.specs.Prelude.{◌≡◌, ◌+◌, ◌%◌, ◌*◌, ◌<◌, ◌≤◌, ◌∷◌, ◌++◌, length, sum};
-ghost use Rattle.book.specs.Layout.{head_at, cell_at, InCells, balance_at};
+ghost use Rattle.std.specs.Prelude.{◌≡◌, ◌≤◌, ◌∷◌, ◌++◌, length, sum};
+ghost use Rattle.book.specs.Layout.{head_at, cell_at, balance_at};
 ghost use Rattle.book.specs.Records.{bucket_of};
 ghost use Rattle.record.specs.Fields.{digits};
 ghost use Rattle.plans.specs.Walks.{IsChain, chain_number};

@@ -2,8 +2,9 @@
 ghost use Rattle.std.specs.Prelude.{◌≡◌, ◌+◌, ◌<◌, ◌≤◌, [], ◌∷◌, ◌++◌};
 ghost use Rattle.arrayvec.specs.ArrayVec.{array_vec_len};
 ghost use Rattle.record.specs.Fields.{field, digits};
-ghost use Rattle.book.specs.Layout.{balance_at, head_at, cell_at, cell, whole};
-ghost use Rattle.book.specs.Edits.{edit};
+ghost use Rattle.book.specs.Layout.{byte_in, balance_at, head_at, cell_at, cell, whole};
+ghost use Rattle.book.specs.Book.{Book, Holds};
+ghost use Rattle.book.specs.Edits.{edit, unlink};
 ghost use Rattle.plans.specs.Plans.{edits_of};
 ghost use Rattle.plans.specs.Putting.{putting, taking};
 ghost use Rattle.plans.specs.Walks.{IsChain, chain_number};
@@ -90,4 +91,13 @@ impl Plan {
         self.fill(found.number, front, 0, &[0; CONTENT]);
         self.lead(head, found.number);
     }
+}
+
+// This cell is taken out of its chain.
+pub(crate) fn taking_out<R>(memory: &[u8; MEMORY], found: &Found<R>) -> Plan
+    ensures { (b : Book) → Holds (byte_in memory.now) b → edits_of result ≡ unlink b found.now.link found.now.number found.now.next }
+{
+    let mut plan = Plan::new();
+    plan.take_out(memory, found);
+    plan
 }

@@ -1,5 +1,5 @@
 // Reading numbers in the memory.
-ghost use Rattle.std.specs.Prelude.{◌≡◌, ◌+◌, ◌*◌, ◌≤◌, take, drop};
+ghost use Rattle.std.specs.Prelude.{◌≡◌, ◌+◌, ◌≤◌, take, drop};
 ghost use Rattle.record.specs.Fields.{field};
 ghost use Rattle.book.specs.Layout.{balance_at};
 

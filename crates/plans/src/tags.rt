@@ -1,19 +1,20 @@
 // Tags: finding one, and planning to enrol and to drop one.
-ghost use Rattle.std.specs.Prelude.{◌≡◌, [], ◌≤◌};
+ghost use Rattle.std.specs.Prelude.{◌≡◌};
 ghost use Rattle.record.specs.Fields.{field};
 ghost use Rattle.book.specs.Layout.{byte_in, head_at, bucket_chain};
 ghost use Rattle.book.specs.Records.{bucket_of, tag_kind, tag_content};
-ghost use Rattle.book.specs.Book.{Book, Holds, IsAccount};
+ghost use Rattle.book.specs.Book.{Book, Holds};
 ghost use Rattle.book.specs.Rows.{account_of, enrol_rows, drop_rows, present};
 ghost use Rattle.book.specs.Edits.{tag, enrol_edits, drop_edits};
 ghost use Rattle.plans.specs.Plans.{Passes, Planned, edits_of};
-ghost use Rattle.plans.specs.Putting.{putting, taking};
+ghost use Rattle.plans.specs.Putting.{putting};
 ghost use Rattle.plans.specs.Walks.{Known};
 
 use crate::chains::{Chain, bucket_of};
 use crate::checks::check_account;
-use crate::found::{Found, FreeCell};
+use crate::found::FreeCell;
 use crate::plan::Plan;
+use crate::putting::taking_out;
 use crate::walking::{front_free, seek_tag};
 use book::{LedgerFault, Tag};
 use image::MEMORY;
@@ -71,13 +72,4 @@ pub fn plan_drop(memory: &[u8; MEMORY], id: &[u8; 8]) -> Result<Plan, LedgerFaul
         return Err(LedgerFault::Unknown(bucket_of(id)));
     };
     Ok(taking_out(memory, &found))
-}
-
-// This cell is taken out of its chain.
-pub(crate) fn taking_out<R>(memory: &[u8; MEMORY], found: &Found<R>) -> Plan
-    ensures { edits_of result ≡ taking found.now.link found.now.number found.now.next (field 8 2 memory.now) }
-{
-    let mut plan = Plan::new();
-    plan.take_out(memory, found);
-    plan
 }

@@ -1,8 +1,8 @@
 // Walks along a chain: for every kind of record, and over any memory, in which a chain might have no end.
-ghost use Rattle.std.specs.Prelude.{◌≡◌, ℕ, ◌+◌, ◌<◌, ◌≤◌, Bool, true, List, map};
-ghost use Rattle.book.specs.Layout.{byte_in, head_at};
+ghost use Rattle.std.specs.Prelude.{◌≡◌, ◌+◌, ◌≤◌, Bool, true, List};
+ghost use Rattle.book.specs.Layout.{byte_in};
 ghost use Rattle.book.specs.Book.{At, Book, Holds, IsAccount};
-ghost use Rattle.plans.specs.Walks.{Leads, first_such, seen, Frees, Sought};
+ghost use Rattle.plans.specs.Walks.{Leads, first_such, seen, Frees, Sought, Fronted};
 
 use crate::chains::{CELLS, Chain, bucket_of, cell_at};
 use crate::found::{Found, FreeCell};
@@ -78,7 +78,7 @@ pub(crate) fn seek_tag(memory: &[u8; MEMORY], id: &[u8; 8]) -> Option<Found<Tag>
 // The front entry of an account.
 pub(crate) fn front_entry(memory: &[u8; MEMORY], account: u16) -> Option<Found<Entry>>
     requires { IsAccount account }
-    ensures { (b : Book) → Holds (byte_in memory.now) b → seen result ≡ first_such (λ _. true) (head_at account) (b.entries account) }
+    ensures { (b : Book) → Holds (byte_in memory.now) b → Fronted b account result }
 {
     first(memory, Chain::Account(account).head())
 }

@@ -9,6 +9,8 @@ use device::{Device, DeviceFault, SECTOR};
 use mirror::Mirror;
 use std::fmt;
 
+mod ledger_story;
+mod moving;
 mod reopening;
 mod truncating;
 
@@ -157,5 +159,7 @@ fn main(rt: HostRuntime) -> anyhow::Result<()> {
     println!(rt; "")?;
     reopening::tell_reopening(&rt)?;
     println!(rt; "")?;
-    truncating::tell_truncating(&rt)
+    truncating::tell_truncating(&rt)?;
+    println!(rt; "")?;
+    ledger_story::tell_ledger(&rt)
 }

@@ -126,7 +126,7 @@ fn tell_pile<L: Device + Drop, R: Device + Drop>(
 }
 
 // A plan that lets so many writes go on before each of these codes.
-fn plan(heap: Global, cuts: &[(usize, u8)]) -> Result<Vec<u8>, AllocError> {
+pub fn plan(heap: Global, cuts: &[(usize, u8)]) -> Result<Vec<u8>, AllocError> {
     let mut plan = Vec::new(heap);
     for (writes, code) in cuts {
         let whole = vec![in heap; 0u8; *writes]?;

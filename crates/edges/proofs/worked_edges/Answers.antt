@@ -5,6 +5,7 @@ use Rattle.edges.proofs.Ranges.{last_byte_declared, refused_at_the_end, cut_in_t
 use Rattle.edges.proofs.Room.{fifteen_pass, then_full}
 use Rattle.edges.proofs.Gaps.{spoiled_between, no_last_part}
 use Rattle.edges.proofs.Samples.{sectors_with_a_gap, sectors_with_no_last}
+use Rattle.edges.proofs.Books.{in_bucket_four, twenty_pass, twenty_one_short}
 use Rattle.edges.proofs.worked_edges.Goals as goal
 
 pub returns : goal.returns
@@ -23,4 +24,7 @@ returns c =
       sectors_with_a_gap = sectors_with_a_gap;
       no_last_part = no_last_part;
       sectors_with_no_last = sectors_with_no_last;
+      in_bucket_four = in_bucket_four;
+      twenty_pass = twenty_pass;
+      twenty_one_short = twenty_one_short;
     }

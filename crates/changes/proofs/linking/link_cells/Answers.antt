@@ -8,13 +8,13 @@ use Rattle.changes.proofs.linking.link_cells.Goals as goal
 pub returns : goal.returns
 returns g c =
     let s = c.args.store.now in
-    let p = c.put_links.new.store in
-    let t = c.commit.new.self in
-    let same = c.put_links.ensures.device ∙ c.in_ok-token.ensures.device in
+    let p = c.put_links-put.new.store in
+    let t = c.finish.new.store in
+    let same = c.put_links-put.ensures.device ∙ c.in_ok-token.ensures.device in
     inr (
       c.in_ok-token.ensures.state.0,
       λ clean.
-          subst (λ d. Changes s.state (g.D.Device.disk d) make_edits true c.commit.result t.state (g.D.Device.disk t.device)) same
-          (change_made s.state c.begin.new.self.state p.state t.state (g.D.Device.disk p.device) (g.D.Device.disk t.device) c.in_ok-token.token make_edits true c.in_default.field-0 c.commit.result
-          c.in_ok-token.ensures.state c.in_default.ensures.done c.commit.ensures clean),
+          subst (λ d. Changes s.state (g.D.Device.disk d) make_edits true c.finish.result t.state (g.D.Device.disk t.device)) same
+          (change_made s.state c.begin.new.self.state p.state t.state (g.D.Device.disk p.device) (g.D.Device.disk t.device) c.in_ok-token.token make_edits true c.put_links-put.result c.finish.result
+          c.in_ok-token.ensures.state c.put_links-put.ensures.done c.finish.ensures clean),
     )

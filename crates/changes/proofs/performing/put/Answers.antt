@@ -1,5 +1,4 @@
 -- Neither call is refused.
-use Rattle.std.proofs.Common.{Ok, Err, refl}
 use Rattle.changes.proofs.Putting.{not_set, put_done}
 use Rattle.changes.proofs.performing.put.Goals as goal
 

@@ -1,9 +1,11 @@
 -- In a ledger the total and the balance are those that are read.
-use Rattle.std.proofs.Common.{◌≡◌, ◌+◌, ◌∷◌, [], ◌∙◌, sym, ap, arith}
+use Rattle.std.proofs.Common.{◌≡◌, ◌+◌, ◌∷◌, [], ◌∙◌, ap, arith}
 use Rattle.std.proofs.lemmas.Result.{err_from_is_err_and}
 use Rattle.book.specs.Rows.{no_account, nothing, too_much}
-use Rattle.plans.proofs.Standing.{held_total, held_balance, balance_part}
-use Rattle.plans.proofs.Planning.{passed, refuses, account_is, not_above}
+use Rattle.book.proofs.Sums.{sum_least}
+use Rattle.book.proofs.Passing.{is_one, not_less}
+use Rattle.plans.proofs.Standing.{held_total, held_balance}
+use Rattle.plans.proofs.Planning.{passed, refuses}
 use Rattle.plans.proofs.accounts.plan_issue.Goals as goal
 
 pub returns-in_err-check_total : goal.returns-in_err-check_total
@@ -20,11 +22,11 @@ returns-in_err-grown c b h =
     let m = c.args.memory.now in
     let a = c.args.account in
     let issued : c.amount-issued.result ≡ b.issued = c.amount-issued.ensures ∙ held_total m b h (omega arith) in
-    let is = account_is a c.in_ok-check_account.ensures in
+    let is = is_one a c.in_ok-check_account.ensures in
     let balance : c.balance.result ≡ b.balances a = c.balance.ensures ∙ held_balance m b a h (omega arith) is in
-    let part = balance_part 64 b.balances a is.0 is.1 in
+    let part = sum_least 64 a b.balances is.0 is.1 in
     let sum = h.money.sum in
-    let small = not_above _ _ c.in_ok-check_total.ensures in
+    let small = not_less _ _ c.in_ok-check_total.ensures in
     absurd (omega (arith, c.in_err-grown.ensures))
 
 pub returns : goal.returns
@@ -33,7 +35,7 @@ returns c b h =
     let a = c.args.account in
     let n = c.args.amount in
     let issued : c.amount-issued.result ≡ b.issued = c.amount-issued.ensures ∙ held_total m b h (omega arith) in
-    let is = account_is a c.in_ok-check_account.ensures in
+    let is = is_one a c.in_ok-check_account.ensures in
     let balance : c.balance.result ≡ b.balances a = c.balance.ensures ∙ held_balance m b a h (omega arith) is in
     let row = rw issued at c.in_ok-check_total.ensures in
     let grown : c.in_ok-grown.grown ≡ b.balances a + n = c.in_ok-grown.ensures ∙ ap (λ i. i + n) balance in

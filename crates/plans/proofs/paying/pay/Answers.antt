@@ -1,11 +1,13 @@
 -- In a ledger the balances and the free cell are those that are read, and a balance has room for what is paid.
-use Rattle.std.proofs.Common.{◌≡◌, ◌+◌, ◌-◌, [], ◌∷◌, ◌∙◌, ap, arith}
+use Rattle.std.proofs.Common.{◌≡◌, ◌+◌, [], ◌∷◌, ◌∙◌, ap, arith}
 use Rattle.std.proofs.lemmas.Result.{err_from_is_err_and}
 use Rattle.book.specs.Records.{entry_kind, entry_content}
 use Rattle.book.specs.Rows.{same, nothing, short, no_cell}
 use Rattle.book.specs.Edits.{entry}
-use Rattle.plans.proofs.Standing.{held_balance, balance_part}
-use Rattle.plans.proofs.Planning.{passed, refuses, not_above, pay_to_cell}
+use Rattle.book.proofs.Sums.{sum_least}
+use Rattle.book.proofs.Passing.{not_less}
+use Rattle.plans.proofs.Standing.{held_balance}
+use Rattle.plans.proofs.Planning.{passed, refuses, pay_to_cell}
 use Rattle.plans.proofs.Written.{put_is}
 use Rattle.plans.proofs.paying.pay.Goals as goal
 
@@ -39,11 +41,11 @@ returns-in_err-grown c b h =
     let q = c.args.payee in
     let had : c.balance-had.result ≡ b.balances p = c.balance-had.ensures ∙ held_balance m b p h (omega arith) c.requires.paying in
     let has : c.balance.result ≡ b.balances q = c.balance.ensures ∙ held_balance m b q h (omega arith) c.requires.paid in
-    let paying = balance_part 64 b.balances p c.requires.paying.0 c.requires.paying.1 in
-    let paid = balance_part 64 b.balances q c.requires.paid.0 c.requires.paid.1 in
+    let paying = sum_least 64 p b.balances c.requires.paying.0 c.requires.paying.1 in
+    let paid = sum_least 64 q b.balances c.requires.paid.0 c.requires.paid.1 in
     let sum = h.money.sum in
     let bound = h.money.bound in
-    let small = not_above _ _ c.in_ok-check_balance.ensures in
+    let small = not_less _ _ c.in_ok-check_balance.ensures in
     absurd (omega (arith, c.in_err-grown.ensures))
 
 pub returns : goal.returns

@@ -1,5 +1,5 @@
 -- The index of the front free cell is its head's.
-use Rattle.std.proofs.Common.{◌≡◌, ℕ, refl, sym, ap, ◌∙◌, arith}
+use Rattle.std.proofs.Common.{◌≡◌, refl, sym, ap, ◌∙◌, arith}
 use Rattle.record.specs.Fields.{field}
 use Rattle.book.specs.Layout.{cell_at}
 use Rattle.plans.proofs.Fronts.{none_free, free_inside, some_free}

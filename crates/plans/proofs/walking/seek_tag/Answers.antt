@@ -1,5 +1,5 @@
 -- A tag is looked for in its own bucket.
-use Rattle.std.proofs.Common.{◌≡◌, ℕ, List, sym, ap, ◌∙◌, subst, rules}
+use Rattle.std.proofs.Common.{◌≡◌, ℕ, sym, ap, ◌∙◌, subst, rules}
 use Rattle.book.specs.Records.{bucket_of, tag_kind, tag_content, TagFits}
 use Rattle.book.specs.Layout.{byte_in, head_at, bucket_chain}
 use Rattle.plans.specs.Walks.{Leads, seen, first_such}
