@@ -5,7 +5,7 @@ ghost use Rattle.book.specs.Layout.{byte_in, balance_at, Stands};
 ghost use Rattle.audit.specs.Judging.{MoneyJudged};
 
 use crate::bytes::long;
-use crate::layout::{ACCOUNTS, balance_place};
+use book::{ACCOUNTS, balance_at};
 use transactions::MEMORY;
 
 // No more than this is ever issued.
@@ -19,12 +19,12 @@ pub(crate) fn money_adds_up(memory: &[u8; MEMORY]) -> bool
 }
 
 // The balances of all accounts.
-fn balances(memory: &[u8; MEMORY]) -> [u64; ACCOUNTS]
+fn balances(memory: &[u8; MEMORY]) -> [u64; ACCOUNTS as usize]
     ensures { (i : ℕ) → i < 64 → Stands (byte_in memory.now) (balance_at (i + 1)) (digits 8 (slice_index result i)) }
 {
-    let mut balances = [0; ACCOUNTS];
+    let mut balances = [0; ACCOUNTS as usize];
     for (i, balance) in balances.iter_mut().enumerate() {
-        *balance = long(memory, balance_place(i + 1));
+        *balance = long(memory, balance_at(i as u16 + 1));
     }
     balances
 }

@@ -3,7 +3,11 @@
 #![tactic(auto)]
 
 mod fault;
+mod layout;
 mod records;
 
 pub use fault::LedgerFault;
+pub use layout::{
+    ACCOUNTS, BUCKETS, CELL, CELLS, Chain, TOTAL, balance_at, bucket_of, cell_at, is_account,
+};
 pub use records::{CONTENT, CellRecord, Entry, Tag};
