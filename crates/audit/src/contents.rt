@@ -6,8 +6,9 @@ ghost use Rattle.book.specs.Book.{IsAccount};
 ghost use Rattle.audit.specs.Contents.{ReadFrom, GoodEntry, GoodTag, IsFree, Fits, FitsOwner, AllFit, HasId, NotAfter, OnceAt, Once};
 
 use crate::bytes::{is_blank, part};
+use crate::layout::numbered;
 use crate::owners::Owners;
-use book::{CELLS, CellRecord, Entry, Tag, bucket_of, cell_at, is_account};
+use book::{CELLS, CellRecord, Chain, Entry, Tag, bucket_of, cell_at, is_account};
 use transactions::MEMORY;
 
 // Whether each cell lies on a chain, and has what that chain may have.
@@ -38,10 +39,10 @@ fn fits(memory: &[u8; MEMORY], number: u16, chain: u16) -> bool
     requires { InCells number }
     ensures { IsTrue result ↔ Fits (byte_in memory.now) number chain }
 {
-    match chain {
-        0 => is_free(memory, number),
-        1..=64 => has_entry(memory, number),
-        _ => has_tag(memory, number, chain - 65),
+    match numbered(chain) {
+        Chain::Free => is_free(memory, number),
+        Chain::Account(_) => has_entry(memory, number),
+        Chain::Bucket(bucket) => has_tag(memory, number, bucket),
     }
 }
 

@@ -1,7 +1,7 @@
 // The chains by their numbers.
 ghost use Rattle.std.specs.Prelude.{◌≡◌, ◌+◌, ◌<◌, ◌≤◌};
 ghost use Rattle.book.specs.Layout.{head_at};
-ghost use Rattle.book.specs.Heads.{IsChain, chain_number};
+ghost use Rattle.audit.specs.Owners.{Numbered};
 
 use book::{ACCOUNTS, BUCKETS, Chain};
 
@@ -17,15 +17,13 @@ pub(crate) fn head_place(chain: u16) -> usize
     numbered(chain).head()
 }
 
-// The chain of this number.
-fn numbered(chain: u16) -> Chain
-    requires { chain < 81 }
-    ensures is { IsChain result }
-    ensures number { chain_number result ≡ chain }
+// The chain of this number; where there is none, a bucket that is none.
+pub(crate) fn numbered(chain: u16) -> Chain
+    ensures { Numbered chain result }
 {
     match chain {
         0 => Chain::Free,
         1..=ACCOUNTS => Chain::Account(chain),
-        _ => Chain::Bucket(chain - 65),
+        _ => Chain::Bucket(chain - ACCOUNTS - 1),
     }
 }

@@ -5,17 +5,14 @@ ghost use Rattle.book.specs.Layout.{byte_in, balance_at, Stands};
 ghost use Rattle.audit.specs.Judging.{MoneyJudged};
 
 use crate::bytes::long;
-use book::{ACCOUNTS, balance_at};
+use book::{ACCOUNTS, TOTAL, TOTALS, balance_at};
 use transactions::MEMORY;
-
-// No more than this is ever issued.
-const MOST: u64 = 0x7FFF_FFFF_FFFF_FFFF;
 
 // Whether what is issued is the sum of the balances.
 pub(crate) fn money_adds_up(memory: &[u8; MEMORY]) -> bool
     ensures { MoneyJudged (byte_in memory.now) result }
 {
-    total(&balances(memory)) == Some(long(memory, 0))
+    total(&balances(memory)) == Some(long(memory, TOTAL))
 }
 
 // The balances of all accounts.
@@ -35,7 +32,7 @@ fn total(balances: &[u64]) -> Option<u64>
 {
     let mut total: u64 = 0;
     for balance in balances {
-        total = total.checked_add(*balance).filter(|total| *total <= MOST)?;
+        total = total.checked_add(*balance).filter(|total| *total < TOTALS)?;
     }
     Some(total)
 }

@@ -18,6 +18,9 @@ pub const CELL: usize = 24;
 // Where the total stands that was issued.
 pub const TOTAL: usize = 0;
 
+// The total stays below this, where the sign of a 64-bit number would begin.
+pub const TOTALS: u64 = 0x8000_0000_0000_0000;
+
 // The free cells, the entries of an account, the tags of a bucket.
 #[derive(Clone, Copy, PartialEq, Eq, Debug)]
 pub enum Chain {

@@ -8,6 +8,7 @@ mod records;
 
 pub use fault::LedgerFault;
 pub use layout::{
-    ACCOUNTS, BUCKETS, CELL, CELLS, Chain, TOTAL, balance_at, bucket_of, cell_at, is_account,
+    ACCOUNTS, BUCKETS, CELL, CELLS, Chain, TOTAL, TOTALS, balance_at, bucket_of, cell_at,
+    is_account,
 };
 pub use records::{CONTENT, CellRecord, Entry, Tag};
