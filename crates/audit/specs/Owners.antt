@@ -1,7 +1,15 @@
 -- Which cells lie on which chain, by their numbers.
 use Rattle.std.specs.Prelude.{◌≡◌, ℕ, ◌+◌, ◌-◌, ◌*◌, ◌<◌, Bool, true, false, ◌⊎◌, List, [], ◌∷◌, Some, None, Option, slice_index_or}
-use Rattle.book.specs.Layout.{head_at, cell_at, InCells}
-use Rattle.book.specs.Book.{Book, Chains}
+use Rattle.book.specs.declared.layout.Chain.{Chain}
+use Rattle.book.specs.declared.layout.Chain.TheVariants.{Free, Account, Bucket}
+use Rattle.book.specs.Layout.{head_at, bucket_chain, cell_at, InCells}
+use Rattle.book.specs.Book.{Book, Chains, IsAccount}
+
+-- The chain that has this number: after the free one come the accounts, each by its own, and then the buckets.
+abbrev pub Numbered : ℕ → Chain → Type 0
+Numbered c Free = c ≡ 0
+Numbered c (Account a) = IsAccount a × (c ≡ a)
+Numbered c (Bucket k) = c ≡ bucket_chain k
 
 -- The index in the two bytes from a on.
 abbrev pub index_at : (ℕ → ℕ) → ℕ → ℕ

@@ -23,11 +23,11 @@ pub(crate) fn long(memory: &[u8; MEMORY], at: usize) -> u64
 }
 
 // The index in the 2 bytes from `at` on.
-pub(crate) fn index(memory: &[u8; MEMORY], at: usize) -> usize
+pub(crate) fn index(memory: &[u8; MEMORY], at: usize) -> u16
     requires { at + 2 ≤ MEMORY }
     ensures { result ≡ index_at (byte_in memory.now) at }
 {
-    u16::from_le_bytes(part(memory, at)) as usize
+    u16::from_le_bytes(part(memory, at))
 }
 
 // Whether so many zeros stand there.

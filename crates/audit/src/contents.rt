@@ -6,9 +6,9 @@ ghost use Rattle.book.specs.Book.{IsAccount};
 ghost use Rattle.audit.specs.Contents.{ReadFrom, GoodEntry, GoodTag, IsFree, Fits, FitsOwner, AllFit, HasId, NotAfter, OnceAt, Once};
 
 use crate::bytes::{is_blank, part};
-use crate::layout::{BUCKETS, CELLS, cell_place};
+use crate::layout::numbered;
 use crate::owners::Owners;
-use book::{CellRecord, Entry, Tag};
+use book::{CELLS, CellRecord, Chain, Entry, Tag, bucket_of, cell_at, is_account};
 use transactions::MEMORY;
 
 // Whether each cell lies on a chain, and has what that chain may have.
@@ -16,7 +16,7 @@ pub(crate) fn all_fit(memory: &[u8; MEMORY], owners: &Owners) -> bool
     ensures { IsTrue result ↔ AllFit (byte_in memory.now) owners.now }
 {
     for (i, owner) in owners.iter().enumerate() {
-        if !fits_owner(memory, i + 1, *owner) {
+        if !fits_owner(memory, i as u16 + 1, *owner) {
             return false;
         }
     }
@@ -24,7 +24,7 @@ pub(crate) fn all_fit(memory: &[u8; MEMORY], owners: &Owners) -> bool
 }
 
 // Whether the cell lies on a chain, and has what that chain may have.
-fn fits_owner(memory: &[u8; MEMORY], number: usize, owner: Option<usize>) -> bool
+fn fits_owner(memory: &[u8; MEMORY], number: u16, owner: Option<u16>) -> bool
     requires { InCells number }
     ensures { IsTrue result ↔ FitsOwner (byte_in memory.now) number owner }
 {
@@ -35,27 +35,27 @@ fn fits_owner(memory: &[u8; MEMORY], number: usize, owner: Option<usize>) -> boo
 }
 
 // Whether the cell has what this chain may have.
-fn fits(memory: &[u8; MEMORY], number: usize, chain: usize) -> bool
+fn fits(memory: &[u8; MEMORY], number: u16, chain: u16) -> bool
     requires { InCells number }
     ensures { IsTrue result ↔ Fits (byte_in memory.now) number chain }
 {
-    match chain {
-        0 => is_free(memory, number),
-        1..=64 => has_entry(memory, number),
-        _ => has_tag(memory, number, chain - 65),
+    match numbered(chain) {
+        Chain::Free => is_free(memory, number),
+        Chain::Account(_) => has_entry(memory, number),
+        Chain::Bucket(bucket) => has_tag(memory, number, bucket),
     }
 }
 
 // Whether the cell is free.
-fn is_free(memory: &[u8; MEMORY], number: usize) -> bool
+fn is_free(memory: &[u8; MEMORY], number: u16) -> bool
     requires { InCells number }
     ensures { IsTrue result ↔ IsFree (byte_in memory.now) number }
 {
-    is_blank(memory, cell_place(number) + 2, 22)
+    is_blank(memory, cell_at(number) + 2, 22)
 }
 
 // Whether the cell has an entry that names an account.
-fn has_entry(memory: &[u8; MEMORY], number: usize) -> bool
+fn has_entry(memory: &[u8; MEMORY], number: u16) -> bool
     requires { InCells number }
     ensures { IsTrue result ↔ GoodEntry (byte_in memory.now) number }
 {
@@ -66,7 +66,7 @@ fn has_entry(memory: &[u8; MEMORY], number: usize) -> bool
 }
 
 // Whether the cell has a tag of this bucket that names an account.
-fn has_tag(memory: &[u8; MEMORY], number: usize, bucket: usize) -> bool
+fn has_tag(memory: &[u8; MEMORY], number: u16, bucket: u16) -> bool
     requires { InCells number }
     ensures { IsTrue result ↔ GoodTag (byte_in memory.now) number bucket }
 {
@@ -77,18 +77,18 @@ fn has_tag(memory: &[u8; MEMORY], number: usize, bucket: usize) -> bool
 }
 
 // Whether the tag names an account, and belongs to this bucket.
-fn belongs(tag: &Tag, bucket: usize) -> bool
+fn belongs(tag: &Tag, bucket: u16) -> bool
     ensures { IsTrue result ↔ (IsAccount tag.now.account × (bucket_of tag.now.id ≡ bucket)) }
 {
-    is_account(tag.account) && bucket_number(&tag.id) == bucket
+    is_account(tag.account) && bucket_of(&tag.id) == bucket
 }
 
 // The record of this kind in the cell, if one lies there.
-fn read_from<R: CellRecord>(memory: &[u8; MEMORY], number: usize) -> Option<R>
+fn read_from<R: CellRecord>(memory: &[u8; MEMORY], number: u16) -> Option<R>
     requires { InCells number }
     ensures { ReadFrom R.KIND R.content R.fits (byte_in memory.now) number result }
 {
-    let at = cell_place(number);
+    let at = cell_at(number);
     if !is_kind(memory, at, R::KIND) {
         return None;
     }
@@ -101,24 +101,6 @@ fn is_kind(memory: &[u8; MEMORY], at: usize, kind: u8) -> bool
     ensures { IsTrue result ↔ ((byte_in memory.now (at + 2) ≡ kind) × (byte_in memory.now (at + 3) ≡ 0)) }
 {
     memory[at + 2] == kind && memory[at + 3] == 0
-}
-
-// Whether there is an account of this number.
-fn is_account(number: u16) -> bool
-    ensures { IsTrue result ↔ IsAccount number }
-{
-    (1..=64).contains(&number)
-}
-
-// The bucket that a tag belongs to.
-fn bucket_number(id: &[u8; 8]) -> usize
-    ensures { result ≡ bucket_of id.now }
-{
-    let mut sum = 0;
-    for byte in id {
-        sum += *byte as usize;
-    }
-    sum % BUCKETS
 }
 
 // Whether no tag lies in two cells.
@@ -134,7 +116,7 @@ pub(crate) fn tags_are_once(memory: &[u8; MEMORY]) -> bool
 }
 
 // Whether the tag in this cell, if there is one, lies in none after it.
-fn is_once(memory: &[u8; MEMORY], number: usize) -> bool
+fn is_once(memory: &[u8; MEMORY], number: u16) -> bool
     requires { InCells number }
     ensures { IsTrue result ↔ OnceAt (byte_in memory.now) number }
 {
@@ -145,7 +127,7 @@ fn is_once(memory: &[u8; MEMORY], number: usize) -> bool
 }
 
 // Whether the tag with these bytes lies in no cell after this one.
-fn is_not_after(memory: &[u8; MEMORY], number: usize, id: &[u8; 8]) -> bool
+fn is_not_after(memory: &[u8; MEMORY], number: u16, id: &[u8; 8]) -> bool
     requires { InCells number }
     ensures { IsTrue result ↔ NotAfter (byte_in memory.now) number id.now }
 {
@@ -158,7 +140,7 @@ fn is_not_after(memory: &[u8; MEMORY], number: usize, id: &[u8; 8]) -> bool
 }
 
 // Whether the tag with these bytes lies in the cell.
-fn has_id(memory: &[u8; MEMORY], number: usize, id: &[u8; 8]) -> bool
+fn has_id(memory: &[u8; MEMORY], number: u16, id: &[u8; 8]) -> bool
     requires { InCells number }
     ensures { IsTrue result ↔ HasId (byte_in memory.now) number id.now }
 {

@@ -5,26 +5,23 @@ ghost use Rattle.book.specs.Layout.{byte_in, balance_at, Stands};
 ghost use Rattle.audit.specs.Judging.{MoneyJudged};
 
 use crate::bytes::long;
-use crate::layout::{ACCOUNTS, balance_place};
+use book::{ACCOUNTS, TOTAL, TOTALS, balance_at};
 use transactions::MEMORY;
-
-// No more than this is ever issued.
-const MOST: u64 = 0x7FFF_FFFF_FFFF_FFFF;
 
 // Whether what is issued is the sum of the balances.
 pub(crate) fn money_adds_up(memory: &[u8; MEMORY]) -> bool
     ensures { MoneyJudged (byte_in memory.now) result }
 {
-    total(&balances(memory)) == Some(long(memory, 0))
+    total(&balances(memory)) == Some(long(memory, TOTAL))
 }
 
 // The balances of all accounts.
-fn balances(memory: &[u8; MEMORY]) -> [u64; ACCOUNTS]
+fn balances(memory: &[u8; MEMORY]) -> [u64; ACCOUNTS as usize]
     ensures { (i : ℕ) → i < 64 → Stands (byte_in memory.now) (balance_at (i + 1)) (digits 8 (slice_index result i)) }
 {
-    let mut balances = [0; ACCOUNTS];
+    let mut balances = [0; ACCOUNTS as usize];
     for (i, balance) in balances.iter_mut().enumerate() {
-        *balance = long(memory, balance_place(i + 1));
+        *balance = long(memory, balance_at(i as u16 + 1));
     }
     balances
 }
@@ -35,7 +32,7 @@ fn total(balances: &[u64]) -> Option<u64>
 {
     let mut total: u64 = 0;
     for balance in balances {
-        total = total.checked_add(*balance).filter(|total| *total <= MOST)?;
+        total = total.checked_add(*balance).filter(|total| *total < TOTALS)?;
     }
     Some(total)
 }

@@ -4,17 +4,18 @@ ghost use Rattle.book.specs.Layout.{byte_in, head_at, cell_at, InCells};
 ghost use Rattle.audit.specs.Owners.{index_at, owner, Follows, Finds};
 
 use crate::bytes::index;
-use crate::layout::{CELLS, CHAINS, cell_place, head_place};
+use crate::layout::{CHAINS, head_place};
+use book::{CELLS, cell_at};
 use transactions::MEMORY;
 
 // The number of the chain that each cell was met on.
-pub(crate) type Owners = [Option<usize>; CELLS];
+pub(crate) type Owners = [Option<u16>; CELLS as usize];
 
 // The owners of all cells, if no cell is met twice, and no chain leads out of the cells.
 pub(crate) fn owners(memory: &[u8; MEMORY]) -> Option<Owners>
     ensures { Finds (byte_in memory.now) result }
 {
-    let mut owners = [None; CELLS];
+    let mut owners = [None; CELLS as usize];
     for chain in 0..CHAINS {
         if !follow(memory, chain, &mut owners) {
             return None;
@@ -24,7 +25,7 @@ pub(crate) fn owners(memory: &[u8; MEMORY]) -> Option<Owners>
 }
 
 // Follows a chain, and marks each of its cells. It is not followed further than to a cell that has an owner.
-fn follow(memory: &[u8; MEMORY], chain: usize, owners: &mut Owners) -> bool
+fn follow(memory: &[u8; MEMORY], chain: u16, owners: &mut Owners) -> bool
     requires { chain < 81 }
     ensures { Follows (byte_in memory.now) owners.old owners.new chain result }
 {
@@ -40,23 +41,23 @@ fn follow(memory: &[u8; MEMORY], chain: usize, owners: &mut Owners) -> bool
 }
 
 // Whether there is a cell of this number, which has no owner yet.
-fn is_new(owners: &Owners, number: usize) -> bool
+fn is_new(owners: &Owners, number: u16) -> bool
     requires { 1 ≤ number }
     ensures { IsTrue result ↔ ((number ≤ 200) × (owner owners.now number ≡ None)) }
 {
-    number <= CELLS && owners[number - 1].is_none()
+    number <= CELLS && owners[number as usize - 1].is_none()
 }
 
 // Gives the cell its owner.
-fn give(owners: &mut Owners, number: usize, chain: usize)
+fn give(owners: &mut Owners, number: u16, chain: u16)
     requires { InCells number }
     ensures { owners.new ≡ slice_set owners.old (number - 1) (Some chain) }
 {
-    owners[number - 1] = Some(chain);
+    owners[number as usize - 1] = Some(chain);
 }
 
 // The number of a chain's first cell.
-fn head(memory: &[u8; MEMORY], chain: usize) -> usize
+fn head(memory: &[u8; MEMORY], chain: u16) -> u16
     requires { chain < 81 }
     ensures { result ≡ index_at (byte_in memory.now) (head_at chain) }
 {
@@ -64,9 +65,9 @@ fn head(memory: &[u8; MEMORY], chain: usize) -> usize
 }
 
 // The number of the cell after this one.
-fn next(memory: &[u8; MEMORY], number: usize) -> usize
+fn next(memory: &[u8; MEMORY], number: u16) -> u16
     requires { InCells number }
     ensures { result ≡ index_at (byte_in memory.now) (cell_at number) }
 {
-    index(memory, cell_place(number))
+    index(memory, cell_at(number))
 }

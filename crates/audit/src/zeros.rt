@@ -4,7 +4,7 @@ ghost use Rattle.book.specs.Layout.{byte_in, balance_at, Stands};
 ghost use Rattle.book.specs.Book.{Zeros, IsAccount};
 
 use crate::bytes::is_blank;
-use crate::layout::{ACCOUNTS, balance_place};
+use book::{ACCOUNTS, balance_at};
 use transactions::MEMORY;
 
 // Whether they are zeros.
@@ -19,7 +19,7 @@ fn accounts_end(memory: &[u8; MEMORY]) -> bool
     ensures { IsTrue result ↔ ((a : ℕ) → IsAccount a → Stands (byte_in memory.now) (balance_at a + 10) (replicate 6 0)) }
 {
     for account in 1..=ACCOUNTS {
-        if !is_blank(memory, balance_place(account) + 10, 6) {
+        if !is_blank(memory, balance_at(account) + 10, 6) {
             return false;
         }
     }

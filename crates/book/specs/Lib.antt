@@ -3,6 +3,7 @@ pub mod Fault
 pub mod Records
 pub mod Laws
 pub mod Layout
+pub mod Heads
 pub mod Book
 pub mod Rows
 pub mod Edits

@@ -3,7 +3,12 @@
 #![tactic(auto)]
 
 mod fault;
+mod layout;
 mod records;
 
 pub use fault::LedgerFault;
+pub use layout::{
+    ACCOUNTS, BUCKETS, CELL, CELLS, Chain, TOTAL, TOTALS, balance_at, bucket_of, cell_at,
+    is_account,
+};
 pub use records::{CONTENT, CellRecord, Entry, Tag};

@@ -4,26 +4,20 @@ ghost use Rattle.book.specs.Edits.{free_chain, make_edits};
 ghost use Rattle.changes.specs.Steps.{Puts, Performs};
 
 use crate::performing::{finish, put};
+use book::{CELL, CELLS, Chain, cell_at};
 use device::Device;
-use plans::CELL;
 use transactions::{Store, StoreFault, Token};
 
-// How many cells there are.
-const CELLS: usize = 200;
-
-// Where the free chain has its head.
-const FREE: usize = 8;
-
-// Where cell 1 stands.
-const FIRST: usize = 1072;
+// How many bytes all cells have.
+const BYTES: usize = CELLS as usize * CELL;
 
 // The bytes of all cells, each leading to the next one.
-fn links() -> [u8; CELLS * CELL]
+fn links() -> [u8; BYTES]
     ensures { result ≡ free_chain 1 200 }
 {
-    let mut bytes = [0; CELLS * CELL];
+    let mut bytes = [0; BYTES];
     // An index has two bytes, and that of a cell fits in the first one. After the last cell there is none.
-    for i in 0..CELLS - 1 {
+    for i in 0..CELLS as usize - 1 {
         bytes[CELL * i] = i as u8 + 2;
     }
     bytes
@@ -34,8 +28,8 @@ fn put_links<D: Device>(store: &mut Store<D>, token: &Token) -> Result<(), Store
     ensures done { Puts store.old.state token.now.number 5 make_edits result store.new.state }
     ensures device { store.new.device ≡ store.old.device }
 {
-    put(store, token, FREE, &[1, 0])?;
-    put(store, token, FIRST, &links())
+    put(store, token, Chain::Free.head(), &[1, 0])?;
+    put(store, token, cell_at(1), &links())
 }
 
 // Links the cells of a new ledger by one transaction, with flush.

@@ -1,30 +1,17 @@
 -- What a walk along a chain finds.
-use Rattle.std.specs.Prelude.{◌≡◌, ℕ, ◌<◌, ◌≤◌, Bool, true, false, cond, List, [], ◌∷◌, map, Some, None, Ok, Err, Option, Result}
+use Rattle.std.specs.Prelude.{◌≡◌, ℕ, Bool, true, false, cond, List, [], ◌∷◌, map, Some, None, Ok, Err, Option, Result}
 use Rattle.book.specs.declared.fault.LedgerFault.{LedgerFault}
 use Rattle.book.specs.declared.fault.LedgerFault.TheVariants.{NoCell, Unknown}
 use Rattle.book.specs.declared.records.Tag.{Tag}
 use Rattle.book.specs.declared.records.Entry.{Entry}
 use Rattle.book.specs.Records.{bucket_of}
-use Rattle.book.specs.Layout.{cell_at, Cell, cell, bucket_chain, first_of}
+use Rattle.book.specs.Layout.{cell_at, Cell, cell, first_of}
 use Rattle.book.specs.Layout as layout
 use Rattle.book.specs.Book.{Book, At}
 use Rattle.book.specs.Rows.{account_of, is_empty}
 use Rattle.book.specs.Edits.{Place, place_of, head_or_0, rest_of, unlink, front_of, collect_edits}
-use Rattle.plans.specs.declared.chains.Chain.{Chain}
-use Rattle.plans.specs.declared.chains.Chain.TheVariants.{Free, Account, Bucket}
 use Rattle.plans.specs.declared.found.Found.{Found}
 use Rattle.plans.specs.declared.found.FreeCell.{FreeCell}
-
--- The number of a chain, where it is one.
-abbrev pub chain_number : Chain → ℕ
-chain_number Free = 0
-chain_number (Account a) = a
-chain_number (Bucket k) = bucket_chain k
-
-abbrev pub IsChain : Chain → Type 0
-IsChain Free = Unit {0}
-IsChain (Account a) = a ≤ 64
-IsChain (Bucket k) = k < 16
 
 -- Records of one kind as cells.
 abbrev pub cells_with : {X : Type 0} → ℕ → (X → List ℕ) → List (At X) → List Cell

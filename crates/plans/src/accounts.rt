@@ -7,11 +7,10 @@ ghost use Rattle.book.specs.Edits.{edit, issue_edits};
 ghost use Rattle.plans.specs.Plans.{Planned, Told, Grown, edits_of};
 ghost use Rattle.record.specs.Fields.{digits};
 
-use crate::chains::TOTAL;
 use crate::checks::{check_account, check_some, check_total};
 use crate::plan::Plan;
 use crate::reading::{amount as amount_in, balance};
-use book::LedgerFault;
+use book::{LedgerFault, TOTAL};
 use image::MEMORY;
 
 // The balance of an account.

@@ -4,19 +4,13 @@ ghost use Rattle.book.specs.declared.fault.LedgerFault.TheVariants.{Short as sho
 ghost use Rattle.book.specs.Rows.{no_account, same, nothing};
 ghost use Rattle.plans.specs.Plans.{Passes};
 
-use book::LedgerFault;
-
-// How many accounts there are.
-const ACCOUNTS: u16 = 64;
-
-// The total stays below this, where the sign of a 64-bit number would begin.
-const TOTALS: u64 = 0x8000_0000_0000_0000;
+use book::{LedgerFault, TOTALS, is_account};
 
 // The account is one.
 pub(crate) fn check_account(account: u16) -> Result<(), LedgerFault>
     ensures { Passes (no_account account) result }
 {
-    if account < 1 || account > ACCOUNTS {
+    if !is_account(account) {
         return Err(LedgerFault::Account(account));
     }
     Ok(())

@@ -10,7 +10,6 @@ ghost use Rattle.plans.specs.Plans.{Planned, Collected, edits_of, pay_rows};
 ghost use Rattle.plans.specs.Putting.{putting};
 
 use crate::accounts::grown;
-use crate::chains::Chain;
 use crate::checks::{check_account, check_balance, check_other, check_some};
 use crate::found::FreeCell;
 use crate::plan::Plan;
@@ -18,7 +17,7 @@ use crate::putting::taking_out;
 use crate::reading::balance;
 use crate::tags::known;
 use crate::walking::{front_entry, front_free};
-use book::{Entry, LedgerFault};
+use book::{Chain, Entry, LedgerFault};
 use image::MEMORY;
 
 // Moving: one account pays another, and an entry goes to the front of the payer's.

@@ -4,14 +4,12 @@ ghost use Rattle.arrayvec.specs.ArrayVec.{array_vec_len};
 ghost use Rattle.book.specs.Edits.{edit};
 
 use arrayvec::ArrayVec;
-
-// The number of bytes of a cell, than which no patch is longer.
-pub const CELL: usize = 24;
+use book::CELL;
 
 // The most patches that a change takes.
 pub const PATCHES: usize = 5;
 
-// Some bytes that lie in the memory from `start` on, so that declaring them is never refused.
+// Some bytes, no more than a cell has, that lie in the memory from `start` on, so that declaring them is never refused.
 #[derive(Drop)]
 pub struct Patch {
     pub start: usize,

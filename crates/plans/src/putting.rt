@@ -3,17 +3,16 @@ ghost use Rattle.std.specs.Prelude.{◌≡◌, ◌+◌, ◌<◌, ◌≤◌, [], 
 ghost use Rattle.arrayvec.specs.ArrayVec.{array_vec_len};
 ghost use Rattle.record.specs.Fields.{field, digits};
 ghost use Rattle.book.specs.Layout.{byte_in, balance_at, head_at, cell_at, cell, whole};
+ghost use Rattle.book.specs.Heads.{IsChain, chain_number};
 ghost use Rattle.book.specs.Book.{Book, Holds};
 ghost use Rattle.book.specs.Edits.{edit, unlink};
 ghost use Rattle.plans.specs.Plans.{edits_of};
 ghost use Rattle.plans.specs.Putting.{putting, taking};
-ghost use Rattle.plans.specs.Walks.{IsChain, chain_number};
 
-use crate::chains::{Chain, balance_at, cell_at, cell_bytes};
 use crate::found::{Found, FreeCell};
 use crate::plan::Plan;
 use crate::reading::index;
-use book::{CONTENT, CellRecord};
+use book::{CELL, CONTENT, CellRecord, Chain, balance_at, cell_at};
 use image::MEMORY;
 
 impl Plan {
@@ -100,4 +99,15 @@ pub(crate) fn taking_out<R>(memory: &[u8; MEMORY], found: &Found<R>) -> Plan
     let mut plan = Plan::new();
     plan.take_out(memory, found);
     plan
+}
+
+// All bytes of a cell.
+fn cell_bytes(next: u16, kind: u8, content: &[u8; CONTENT]) -> [u8; CELL]
+    ensures { result ≡ digits 2 next ++ (kind ∷ 0 ∷ content.now) }
+{
+    let mut bytes = [0u8; CELL];
+    bytes[0..2].copy_from_slice(&next.to_le_bytes());
+    bytes[2] = kind;
+    bytes[4..24].copy_from_slice(content);
+    bytes
 }

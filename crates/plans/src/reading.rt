@@ -3,7 +3,7 @@ ghost use Rattle.std.specs.Prelude.{◌≡◌, ◌+◌, ◌≤◌, take, drop};
 ghost use Rattle.record.specs.Fields.{field};
 ghost use Rattle.book.specs.Layout.{balance_at};
 
-use crate::chains::balance_at;
+use book::balance_at;
 use image::MEMORY;
 
 // The bytes from `at` on, as many as the number has that they are read as.

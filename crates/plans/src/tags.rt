@@ -10,13 +10,12 @@ ghost use Rattle.plans.specs.Plans.{Passes, Planned, edits_of};
 ghost use Rattle.plans.specs.Putting.{putting};
 ghost use Rattle.plans.specs.Walks.{Known};
 
-use crate::chains::{Chain, bucket_of};
 use crate::checks::check_account;
 use crate::found::FreeCell;
 use crate::plan::Plan;
 use crate::putting::taking_out;
 use crate::walking::{front_free, seek_tag};
-use book::{LedgerFault, Tag};
+use book::{Chain, LedgerFault, Tag, bucket_of};
 use image::MEMORY;
 
 // The account of a tag, if the tag is there.
@@ -31,7 +30,7 @@ pub fn find_tag(memory: &[u8; MEMORY], id: &[u8; 8]) -> Option<u16>
 pub(crate) fn known(memory: &[u8; MEMORY], id: &[u8; 8]) -> Result<u16, LedgerFault>
     ensures { (b : Book) → Holds (byte_in memory.now) b → Known b id.now result }
 {
-    find_tag(memory, id).ok_or(LedgerFault::Unknown(bucket_of(id)))
+    find_tag(memory, id).ok_or(LedgerFault::Unknown(bucket_of(id) as usize))
 }
 
 // The tag is not there yet.
@@ -69,7 +68,7 @@ pub fn plan_drop(memory: &[u8; MEMORY], id: &[u8; 8]) -> Result<Plan, LedgerFaul
     ensures { (b : Book) → Holds (byte_in memory.now) b → Planned (drop_rows b id.now) (drop_edits b id.now) result }
 {
     let Some(found) = seek_tag(memory, id) else {
-        return Err(LedgerFault::Unknown(bucket_of(id)));
+        return Err(LedgerFault::Unknown(bucket_of(id) as usize));
     };
     Ok(taking_out(memory, &found))
 }

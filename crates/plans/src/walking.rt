@@ -4,10 +4,9 @@ ghost use Rattle.book.specs.Layout.{byte_in};
 ghost use Rattle.book.specs.Book.{At, Book, Holds, IsAccount};
 ghost use Rattle.plans.specs.Walks.{Leads, first_such, seen, Frees, Sought, Fronted};
 
-use crate::chains::{CELLS, Chain, bucket_of, cell_at};
 use crate::found::{Found, FreeCell};
 use crate::reading::{index, part};
-use book::{CellRecord, Entry, LedgerFault, Tag};
+use book::{CELLS, CellRecord, Chain, Entry, LedgerFault, Tag, bucket_of, cell_at};
 use image::MEMORY;
 
 // The record in the cell to which the index at `link` leads, if it leads to one.

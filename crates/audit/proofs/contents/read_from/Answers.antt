@@ -8,7 +8,7 @@ use Rattle.audit.proofs.contents.read_from.Goals as goal
 pub returns-then-not-is_kind : goal.returns-then-not-is_kind
 returns-then-not-is_kind g c x fit has =
     let m = c.args.memory.now in
-    let e = sym c.cell_place-at.ensures in
+    let e = sym c.cell_at-at.ensures in
     false≢true
     (c.if-not-is_kind.ensures.1 (
       subst (λ (a : ℕ). get_or m (a + 2) 0 ≡ c.KIND.result) e
@@ -20,7 +20,7 @@ returns-then-not-is_kind g c x fit has =
 pub returns : goal.returns
 returns g c =
     let m = c.args.memory.now in
-    let e = c.cell_place-at.ensures in
+    let e = c.cell_at-at.ensures in
     let kind = c.if-not-is_kind.ensures.0 refl in
     read_cell g.R.CellRecord.KIND g.R.CellRecord.content g.R.CellRecord.fits g.met.R.CellRecord.long (byte_in m) c.args.number c.part.result c.from_content.result
     (search rules)

@@ -11,7 +11,7 @@ returns c b h =
     let f = byte_in c.args.memory.now in
     let id = c.args.id.now in
     let k = bucket_of id in
-    let head : head_at (bucket_chain k) ≡ c.head-head.result = sym (c.head-head.ensures ∙ ap (λ (j : ℕ). head_at (bucket_chain j)) c.bucket_of.ensures) in
+    let head : head_at (bucket_chain k) ≡ c.head-head.result = sym (c.head-head.ensures (rw c.bucket_of.ensures (bucket_below id)) ∙ ap (λ (j : ℕ). head_at (bucket_chain j)) c.bucket_of.ensures) in
     sought b id c.seek.result
     (subst (λ (a : ℕ). seen c.seek.result ≡ first_such (is_id id) a (b.tags k)) (sym head)
     (c.seek.ensures (is_id id) (λ x r p. search rules) (b.tags k) (subst (λ (a : ℕ). Leads tag_kind tag_content TagFits f a (b.tags k)) head (leads_tags f b k h (bucket_below id)))))
