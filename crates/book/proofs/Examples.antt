@@ -1,7 +1,7 @@
 -- Small examples, which show that the definitions say what they should.
-use Rattle.std.proofs.Common.{◌≡◌, ℕ, List, [], ◌∷◌, Some, None, refl}
+use Rattle.std.proofs.Common.{◌≡◌, [], ◌∷◌, Some, refl}
 use Rattle.book.specs.Records.{bucket_of}
-use Rattle.book.specs.Book.{Book, new_book}
+use Rattle.book.specs.Book.{new_book}
 use Rattle.book.specs.Rows.{first_fit, issue_rows, move_rows}
 use Rattle.book.specs.declared.fault.LedgerFault.TheVariants.{Account, Short}
 

@@ -1,5 +1,5 @@
 -- The book that a memory holds: money, the free cells, the entries of each account and the tags of each bucket.
-use Rattle.std.specs.Prelude.{◌≡◌, ℕ, zero, suc, ◌+◌, ◌-◌, ◌*◌, ◌^◌, ◌<◌, ◌≤◌, ◌≢◌, Bool, cond, ◌⊎◌, List, [], ◌∷◌, ◌++◌, length, map, replicate, nat_le, ◌==◌}
+use Rattle.std.specs.Prelude.{◌≡◌, ℕ, zero, suc, ◌+◌, ◌-◌, ◌^◌, ◌<◌, ◌≤◌, ◌≢◌, cond, List, [], ◌∷◌, map, replicate, nat_le, ◌==◌}
 use Rattle.record.specs.Fields.{digits}
 use Rattle.book.specs.declared.records.Tag.{Tag}
 use Rattle.book.specs.declared.records.Entry.{Entry}

@@ -1,13 +1,13 @@
 -- What each change of the book writes: the fields that it changes, a taken or freed cell whole.
-use Rattle.std.specs.Prelude.{◌≡◌, ℕ, zero, suc, ◌+◌, ◌-◌, ◌<◌, cond, List, [], ◌∷◌, ◌++◌, length, map, Some, None, Option, ◌==◌, bytes_eq}
+use Rattle.std.specs.Prelude.{ℕ, zero, suc, ◌+◌, ◌-◌, cond, List, [], ◌∷◌, ◌++◌, length, map, Some, None, Option, ◌==◌, bytes_eq}
 use Rattle.record.specs.Fields.{digits}
 use Rattle.journal.specs.Memory.{overlaid}
 use Rattle.image.specs.declared.run.Run.{Run}
 use Rattle.image.specs.Runs.{joined}
 use Rattle.book.specs.declared.records.Tag.{Tag}
 use Rattle.book.specs.declared.records.Entry.{Entry}
-use Rattle.book.specs.Records.{bucket_of, entry_kind, entry_content, tag_kind, tag_content, blank_content}
-use Rattle.book.specs.Layout.{balance_at, head_at, bucket_chain, cell_at, Cell, cell, whole, first_of}
+use Rattle.book.specs.Records.{bucket_of, entry_kind, entry_content, tag_kind, tag_content}
+use Rattle.book.specs.Layout.{balance_at, head_at, bucket_chain, cell_at, cell, whole, first_of}
 use Rattle.book.specs.Book.{Book, At, at, cells_of, free_cell, tag_cell}
 use Rattle.book.specs.Rows.{account_of}
 

@@ -1,5 +1,5 @@
 -- The 20 bytes of each kind of record.
-use Rattle.std.specs.Prelude.{◌≡◌, ℕ, ◌+◌, ◌%◌, ◌^◌, ◌<◌, List, [], ◌∷◌, ◌++◌, length, replicate, Some, None, Option, sum}
+use Rattle.std.specs.Prelude.{◌≡◌, ℕ, ◌%◌, ◌^◌, ◌<◌, List, ◌++◌, length, replicate, Some, None, Option, sum}
 use Rattle.record.specs.Fields.{digits}
 use Rattle.book.specs.declared.records.Tag.{Tag}
 use Rattle.book.specs.declared.records.Entry.{Entry}

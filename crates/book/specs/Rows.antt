@@ -3,7 +3,6 @@ use Rattle.std.specs.Prelude.{ℕ, ◌+◌, ◌-◌, ◌^◌, Bool, true, false,
 use Rattle.book.specs.declared.fault.LedgerFault.{LedgerFault}
 use Rattle.book.specs.declared.fault.LedgerFault.TheVariants.{Account, Unknown, Present, Same, Nothing, Short, Total, NoCell, NoEntry}
 use Rattle.book.specs.declared.records.Tag.{Tag}
-use Rattle.book.specs.declared.records.Entry.{Entry}
 use Rattle.book.specs.Records.{bucket_of}
 use Rattle.book.specs.Book.{Book, At}
 

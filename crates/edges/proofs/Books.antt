@@ -1,14 +1,13 @@
 -- A tag's bucket, and a balance of 20.
-use Rattle.std.proofs.Common.{◌≡◌, ℕ, ◌<◌, ◌≤◌, Bool, true, false, cond, not, ◌&&◌, eqb, leb, ltb, ◌≢◌, List, [], ◌∷◌, Some, None, Ok, Err, Option, Result, sym, refl, ap, ◌∙◌, subst, inl, inr, ⊎_elim, arith}
+use Rattle.std.proofs.Common.{◌≡◌, ℕ, Bool, true, false, not, eqb, ltb, ◌≢◌, List, [], ◌∷◌, Some, None, Ok, Err, Option, Result, sym, refl, ap, ◌∙◌, inl, inr, ⊎_elim, arith}
 use Rattle.std.proofs.lemmas.Bool.{both_ways, cases_Bool, eqb-true, le-leb, le-ltb, lt-ltb}
 use Rattle.device.specs.Disk.{Disk}
 use Rattle.transactions.specs.declared.fault.StoreFault.{StoreFault}
 use Rattle.transactions.specs.declared.state.State.{State}
 use Rattle.book.specs.declared.fault.LedgerFault.{LedgerFault}
-use Rattle.book.specs.declared.fault.LedgerFault.TheVariants.{Account, Same, Nothing, Store, Unknown, Short, NoCell}
-use Rattle.book.specs.Records.{bucket_of}
+use Rattle.book.specs.declared.fault.LedgerFault.TheVariants.{Store, Short}
 use Rattle.book.specs.Book.{Book, IsAccount}
-use Rattle.book.specs.Rows.{first_fit, is_account, is_empty, unknown, drop_rows, account_of, move_rows}
+use Rattle.book.specs.Rows.{first_fit, is_account, is_empty, unknown, move_rows}
 use Rattle.book.specs.Edits.{move_edits, moved}
 use Rattle.ledger.specs.Calls.{ChangesBook, Moves}
 use Rattle.edges.specs.Books.{one_to_eight, InBucketFour, Twenty, TwentyPass, TwentyOneShort}

@@ -1,15 +1,14 @@
 -- The memory that transactions make of zeros is a store's memory also past its end, where both are zeros.
-use Rattle.std.proofs.Common.{◌≡◌, ℕ, ◌<◌, ◌≤◌, Bool, true, false, cond, leb, ltb, List, [], ◌∷◌, ◌++◌, length, get_or, sym, refl, ap, ◌∙◌, ⊎_elim, arith}
+use Rattle.std.proofs.Common.{◌≡◌, ℕ, ◌<◌, ◌≤◌, Bool, true, false, cond, leb, List, [], ◌∷◌, ◌++◌, length, get_or, sym, refl, ap, ◌∙◌, ⊎_elim, arith}
 use mathlib.Core.Path.{fun_ext}
 use Rattle.std.proofs.lemmas.Bool.{cond-false, le-ltb, cases_lt}
 use Rattle.std.proofs.lemmas.List.{get_or_past}
 use Rattle.image.specs.declared.run.Run.{Run}
-use Rattle.image.specs.declared.state.Image.{Image}
 use Rattle.image.specs.Runs.{is_declared, Inside}
 use Rattle.image.specs.Calls.{declared}
 use Rattle.image.proofs.Facts.{inside_out}
 use Rattle.transactions.specs.declared.state.State.{State}
-use Rattle.law.specs.Transactions.{Transaction, changed, applied_all, made_of, AllProper}
+use Rattle.law.specs.Transactions.{Transaction, applied_all, made_of, AllProper}
 use Rattle.law.specs.History.{History}
 use Rattle.law.specs.Law.{own_transaction}
 use Rattle.law.proofs.Batches.{applied_append}

@@ -1,25 +1,21 @@
 -- Each change takes one book to the next, and what a ledger's call did is an event of its run.
-use Rattle.std.proofs.Common.{◌≡◌, ℕ, ◌+◌, Bool, true, false, List, [], length, Some, None, Ok, Err, Option, Result, sym, refl, ap, ◌∙◌, subst, inl, inr}
+use Rattle.std.proofs.Common.{◌≡◌, ℕ, ◌+◌, Bool, true, [], length, Some, None, Ok, Err, Option, Result, sym, refl, ap, ◌∙◌, subst, inl, inr}
 use mathlib.Core.Path.{fun_ext}
 use mathlib.Core.Logic.{∥∥₁_map}
 use Rattle.device.specs.Disk.{Disk}
-use Rattle.device.specs.Trace.{Act}
 use Rattle.image.specs.Calls.{declared}
 use Rattle.transactions.specs.declared.fault.StoreFault.{StoreFault}
 use Rattle.transactions.specs.declared.log.Log.{Log}
 use Rattle.transactions.specs.declared.state.State.{State}
 use Rattle.transactions.specs.Calls.{Commits}
-use Rattle.law.specs.declared.script.Slot.TheVariants.{First}
 use Rattle.law.specs.declared.script.Deed.TheVariants.{Commit}
-use Rattle.law.specs.declared.script.Call.TheVariants as store
 use Rattle.law.specs.Events as below
 use Rattle.law.proofs.Tracing.{stepped_first}
 use Rattle.book.specs.declared.fault.LedgerFault.{LedgerFault}
-use Rattle.book.specs.declared.fault.LedgerFault.TheVariants.{Store}
 use Rattle.book.specs.Layout.{byte_in}
 use Rattle.book.specs.Book.{Book, Holds, new_book}
 use Rattle.book.specs.Rows.{first_fit}
-use Rattle.book.specs.Edits.{Edit, after_edits}
+use Rattle.book.specs.Edits.{after_edits}
 use Rattle.book.proofs.Changes.{issue_holds, move_holds, visit_holds, enrol_holds}
 use Rattle.book.proofs.Unlinking.{drop_holds, collect_holds}
 use Rattle.changes.specs.Changes.{Prepared, Changes}

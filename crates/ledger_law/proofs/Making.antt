@@ -1,7 +1,6 @@
 -- How a ledger stands that was just made.
-use Rattle.std.proofs.Common.{◌≡◌, ℕ, ◌+◌, ◌≤◌, Bool, true, false, cond, ◌≢◌, List, [], ◌∷◌, ◌++◌, length, take, Some, None, Ok, Err, Option, Result, sym, refl, ap, ◌∙◌, subst, inl, inr, arith, sum}
+use Rattle.std.proofs.Common.{◌≡◌, ℕ, ◌+◌, ◌≤◌, Bool, true, [], ◌∷◌, ◌++◌, Some, None, Ok, Err, Result, sym, refl, ap, ◌∙◌, subst, inl, inr, arith}
 use Rattle.device.specs.Disk.{Disk}
-use Rattle.image.specs.Calls.{declared}
 use Rattle.transactions.specs.declared.fault.StoreFault.{StoreFault}
 use Rattle.transactions.specs.declared.log.Log.{Log}
 use Rattle.transactions.specs.declared.state.State.{State}
@@ -10,8 +9,7 @@ use Rattle.transactions.specs.Calls.{Commits, CommitsParts}
 use Rattle.law.specs.declared.script.Slot.TheVariants.{First}
 use Rattle.law.specs.declared.script.Deed.TheVariants.{Commit}
 use Rattle.law.specs.declared.script.Call.TheVariants as store
-use Rattle.law.specs.declared.script.Told.TheVariants as told
-use Rattle.law.specs.Transactions.{Transaction, made_of}
+use Rattle.law.specs.Transactions.{made_of}
 use Rattle.law.specs.History.{History, Sound}
 use Rattle.law.specs.Events as below
 use Rattle.law.specs.Law as law
@@ -19,11 +17,10 @@ use Rattle.law.proofs.Standing.{rests, begins}
 use Rattle.law.proofs.Steps as kept
 use Rattle.law.proofs.Tracing.{stepped_first}
 use Rattle.book.specs.Layout.{byte_in}
-use Rattle.book.specs.Book.{Book, Holds, new_book}
+use Rattle.book.specs.Book.{Holds, new_book}
 use Rattle.book.specs.Edits.{make_edits}
 use Rattle.ledger.specs.Calls.{Made}
 use Rattle.ledger_law.specs.Events.{Moment, moment, Below, committing, token, Closed}
-use Rattle.ledger_law.specs.Law.{Standing}
 use Rattle.ledger_law.specs.Keeping.{Books, Keeps}
 use Rattle.ledger_law.specs.Run.{FromMake, standing_made}
 use Rattle.ledger_law.proofs.Beyond.{same_own}

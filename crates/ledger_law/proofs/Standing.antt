@@ -1,6 +1,5 @@
 -- What every run of a ledger keeps, and how the books of its first parts grow.
-use Rattle.std.proofs.Common.{◌≡◌, ℕ, ◌+◌, ◌<◌, ◌≤◌, Bool, true, false, cond, List, [], ◌∷◌, ◌++◌, length, get_or, take, Some, None, Ok, Err, Option, Result, sym, refl, ap, ◌∙◌, subst, inl, inr, ⊎_elim, arith, sum}
-use mathlib.Core.Path.{fun_ext}
+use Rattle.std.proofs.Common.{◌≡◌, ℕ, ◌+◌, ◌<◌, ◌≤◌, Bool, true, false, cond, List, [], ◌∷◌, ◌++◌, length, take, sym, refl, ap, ◌∙◌, subst, inl, ⊎_elim, arith, sum}
 use Rattle.std.proofs.lemmas.Bool.{both_ways, cases_lt, and_parts}
 use Rattle.std.proofs.lemmas.List.{length_push, length-take-le, take-append-le, take_all, take-take}
 use Rattle.std.proofs.lemmas.List.Sums.{sum_by_push}
@@ -10,15 +9,14 @@ use Rattle.image.specs.Calls.{declared}
 use Rattle.transactions.specs.declared.state.State.{State}
 use Rattle.transactions.specs.State.{MadeOf}
 use Rattle.law.specs.Transactions.{Transaction, made_of}
-use Rattle.law.specs.History.{History, Resting, Safe, Sound}
+use Rattle.law.specs.History.{History, Safe, Sound}
 use Rattle.law.specs.Law.{own_transaction, entered_after}
 use Rattle.law.proofs.Standing.{rests, safe, on_stands, moved}
 use Rattle.book.specs.Layout.{byte_in}
 use Rattle.book.specs.Book.{Book, Holds}
 use Rattle.book.specs.Edits.{Edit}
 use Rattle.changes.specs.Changes.{Prepared}
-use Rattle.ledger.specs.Calls.{HoldsBook}
-use Rattle.ledger_law.specs.Events.{Moment, is_on, Closed}
+use Rattle.ledger_law.specs.Events.{Moment, is_on}
 use Rattle.ledger_law.specs.Law.{Standing, Conserved}
 use Rattle.ledger_law.specs.Keeping.{Books, Keeps}
 use Rattle.ledger_law.proofs.Beyond.{same_memory}

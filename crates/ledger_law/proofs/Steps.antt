@@ -1,16 +1,14 @@
 -- One event keeps the law.
-use Rattle.std.proofs.Common.{◌≡◌, ℕ, ◌+◌, ◌<◌, ◌≤◌, Bool, true, false, cond, List, [], ◌∷◌, ◌++◌, length, get_or, take, Some, None, Ok, Err, Option, Result, sym, refl, ap, ◌∙◌, subst, inl, inr, ⊎_elim, arith, sum}
+use Rattle.std.proofs.Common.{◌≡◌, ℕ, ◌+◌, ◌≤◌, Bool, true, false, cond, List, [], ◌∷◌, ◌++◌, length, take, Some, None, Ok, Err, Option, Result, sym, refl, ap, ◌∙◌, subst, inl, inr, arith, sum}
 use Rattle.std.proofs.lemmas.Bool.{and_parts}
-use Rattle.device.specs.Disk.{Disk}
 use Rattle.device.specs.Trace.{Act}
-use Rattle.image.specs.Calls.{declared}
 use Rattle.transactions.specs.declared.fault.StoreFault.{StoreFault}
 use Rattle.transactions.specs.declared.state.State.{State}
 use Rattle.law.specs.declared.script.Slot.TheVariants.{First}
 use Rattle.law.specs.declared.script.Deed.TheVariants.{Commit}
 use Rattle.law.specs.declared.script.Call.TheVariants as store
-use Rattle.law.specs.Transactions.{Transaction, made_of}
-use Rattle.law.specs.History.{History, Resting, Sound}
+use Rattle.law.specs.Transactions.{Transaction}
+use Rattle.law.specs.History.{History, Sound}
 use Rattle.law.specs.Events as below
 use Rattle.law.specs.Law as law
 use Rattle.law.proofs.Batches.{proper_take}
@@ -29,7 +27,7 @@ use Rattle.ledger_law.specs.declared.script.Call.{Call}
 use Rattle.ledger_law.specs.declared.script.Call.TheVariants.{Make, Find, Balance, Flush, Truncate, Reopen}
 use Rattle.ledger_law.specs.declared.script.Told.TheVariants as told
 use Rattle.ledger_law.specs.Events.{Answer, Moment, is_on, Event, Below, Still, Committed, Flushed, Truncated, Reopened, token, committing, edits_of, book_after, issued_by, reopening, AnswersOpening, Closed, TakesPlace, Sleeps, Works}
-use Rattle.ledger_law.specs.Law.{Standing, OnlyPower, LawfulBelow, history_after, issued_after, after_event, Conserved, Lawful}
+use Rattle.ledger_law.specs.Law.{Standing, OnlyPower, LawfulBelow, issued_after, after_event, Lawful}
 use Rattle.ledger_law.proofs.Beyond.{same_own, same_memory}
 use Rattle.ledger_law.specs.Keeping.{Books, Keeps}
 use Rattle.ledger_law.proofs.Standing.{kept_few, conserved, books_entered, books_found, prepared_sound}

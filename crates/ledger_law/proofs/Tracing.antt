@@ -1,5 +1,5 @@
 -- Each other call of a ledger is a step of its run.
-use Rattle.std.proofs.Common.{◌≡◌, ℕ, ◌+◌, Bool, true, false, List, [], Some, None, Ok, Err, Option, Result, sym, refl, ap, ◌∙◌, subst, inl, inr, ⊎_elim}
+use Rattle.std.proofs.Common.{◌≡◌, ℕ, Bool, true, false, List, [], Some, None, Ok, Err, Option, Result, sym, refl, ap, ◌∙◌, inl, inr, ⊎_elim}
 use mathlib.Core.Logic.{∥∥₁_map}
 use Rattle.std.proofs.lemmas.Bool.{cases_Bool}
 use Rattle.device.specs.Disk.{Disk}
@@ -9,16 +9,14 @@ use Rattle.transactions.specs.declared.state.State.{State}
 use Rattle.law.specs.Events as below
 use Rattle.law.proofs.Tracing.{stepped_flush, stepped_truncate}
 use Rattle.book.specs.declared.fault.LedgerFault.{LedgerFault}
-use Rattle.book.specs.declared.fault.LedgerFault.TheVariants.{Store}
 use Rattle.book.specs.declared.records.Entry.{Entry}
 use Rattle.book.specs.Book.{Book, new_book}
-use Rattle.ledger.specs.Calls.{HoldsBook, on, power_off, CollectsFrom, Collects, Finds, Balances, from_store, FlushesLedger, TruncatesLedger, OpensLedger}
+use Rattle.ledger.specs.Calls.{HoldsBook, on, CollectsFrom, Collects, Finds, Balances, from_store, FlushesLedger, TruncatesLedger, OpensLedger}
 use Rattle.ledger_law.specs.declared.script.Change.{Change}
 use Rattle.ledger_law.specs.declared.script.Change.TheVariants.{Collect}
-use Rattle.ledger_law.specs.declared.script.Call.{Call}
 use Rattle.ledger_law.specs.declared.script.Call.TheVariants.{Make, Find, Balance, Flush, Truncate, Reopen}
 use Rattle.ledger_law.specs.declared.script.Told.TheVariants as told
-use Rattle.ledger_law.specs.Events.{Answer, Moment, moment, Below, Still, Works, Reopened, reopening, flushing, truncating, told_front, told_flush, told_truncate, Closed}
+use Rattle.ledger_law.specs.Events.{Answer, Moment, moment, Below, Still, Reopened, reopening, flushing, truncating, told_front, told_flush, told_truncate, Closed}
 use Rattle.ledger_law.specs.Run.{Stepped}
 use Rattle.ledger_law.proofs.Changing.{refused, undone, done, Did, asleep_stepped, stepped_so}
 

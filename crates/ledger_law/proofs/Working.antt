@@ -1,5 +1,5 @@
 -- A run that has come so far.
-use Rattle.std.proofs.Common.{◌≡◌, ℕ, zero, suc, ◌+◌, ◌<◌, min, List, [], ◌∷◌, ◌++◌, length, get_or, take, drop, set, Some, Ok, Option, sym, refl, ap, ◌∙◌, subst, add-one}
+use Rattle.std.proofs.Common.{◌≡◌, ℕ, ◌+◌, ◌<◌, min, List, [], ◌∷◌, ◌++◌, length, get_or, take, drop, set, Ok, Option, sym, refl, ap, ◌∙◌, subst, add-one}
 use mathlib.Core.Logic.{∥∥₁_map, ∥∥₁_elim, ∥∥₁_prop}
 use Rattle.std.proofs.lemmas.List.{take_more, take_more_set}
 use Rattle.device.specs.Disk.{Disk}
@@ -9,7 +9,7 @@ use Rattle.ledger_law.specs.declared.script.Call.{Call}
 use Rattle.ledger_law.specs.Events.{Answer, Moment, Event, Below, Happens, TakesPlace, Closed, Chain, calls_of, answers_of}
 use Rattle.ledger_law.specs.Law.{Standing, after_event, standing, Lawful, AllLawful}
 use Rattle.ledger_law.specs.Keeping.{Keeps}
-use Rattle.ledger_law.specs.Run.{Stepped, FromMake, standing_made, LawfulRun, LedgerRun, Worked, Ran}
+use Rattle.ledger_law.specs.Run.{Stepped, FromMake, standing_made, Worked, Ran}
 use Rattle.ledger_law.proofs.Making.{made_keeps}
 use Rattle.ledger_law.proofs.Steps.{event, step}
 

@@ -1,5 +1,5 @@
 -- The law of a ledger: what stands, computed from the events of a run, and what is conserved.
-use Rattle.std.specs.Prelude.{◌≡◌, ℕ, Bool, true, false, cond, List, [], ◌∷◌, ◌++◌, take, Some, None, Ok, Err, Option, Result, sum}
+use Rattle.std.specs.Prelude.{◌≡◌, ℕ, Bool, true, false, cond, List, [], ◌∷◌, ◌++◌, take, Some, None, Ok, Err, Option, sum}
 use Rattle.transactions.specs.declared.state.State.{State}
 use Rattle.law.specs.Events as below
 use Rattle.law.specs.History.{History}

@@ -1,5 +1,5 @@
 -- What a run of a ledger's script does.
-use Rattle.std.specs.Prelude.{◌≡◌, ℕ, ◌+◌, min, Bool, true, List, [], ◌∷◌, length, take, drop, Some, None, Ok, Err, Option, Result}
+use Rattle.std.specs.Prelude.{◌≡◌, ℕ, min, Bool, true, List, [], ◌∷◌, length, take, drop, Ok, Err, Option, Result}
 use Rattle.device.specs.Disk.{Disk}
 use Rattle.device.specs.declared.Device.{Ghosts}
 use Rattle.device.specs.Trace.{Act}

@@ -1,5 +1,5 @@
 -- The law entire, of a script of either kind.
-use Rattle.std.specs.Prelude.{◌≡◌, ℕ, List, Ok, Err, Result}
+use Rattle.std.specs.Prelude.{◌≡◌, ℕ, List, Result}
 use Rattle.device.specs.Disk.{Disk}
 use Rattle.transactions.specs.declared.fault.StoreFault.{StoreFault}
 use Rattle.law.specs.Events as store

@@ -1,7 +1,6 @@
 -- Each change by its own relation.
-use Rattle.std.proofs.Common.{rules, refl, ap, ◌≡◌, length, subst, sym, ◌∙◌}
-use Rattle.ledger_law.specs.declared.script.Change.{Change}
-use Rattle.ledger_law.specs.declared.script.Change.TheVariants.{Issue, Transfer, Visit, Enrol, DropTag, Collect}
+use Rattle.std.proofs.Common.{rules, refl, ◌≡◌, length}
+use Rattle.ledger_law.specs.declared.script.Change.TheVariants.{Issue, Transfer, Visit, Enrol, DropTag}
 use Rattle.ledger_law.proofs.Changing.{told_ordinal, change_step}
 use Rattle.ledger_law.proofs.Tracing.{told_collect, collect_step}
 use Rattle.ledger_law.proofs.run.change.Goals as goal

@@ -1,5 +1,5 @@
 -- An opening of what was closed.
-use Rattle.std.proofs.Common.{rules, refl, ap, subst, ◌≡◌}
+use Rattle.std.proofs.Common.{rules, ap, subst, ◌≡◌}
 use Rattle.device.specs.Disk.{Disk}
 use Rattle.ledger.specs.Calls.{OpensLedger}
 use Rattle.ledger_law.specs.declared.script.Call.TheVariants.{Reopen}

@@ -2,7 +2,7 @@
 use Rattle.std.proofs.Common.{rules, refl, ap, subst, sym, ◌≡◌, ◌∙◌}
 use Rattle.ledger.specs.Calls.{on}
 use Rattle.ledger_law.specs.declared.script.Call.{Call}
-use Rattle.ledger_law.specs.declared.script.Call.TheVariants.{Make, Find, Balance, Flush, Truncate, Reopen}
+use Rattle.ledger_law.specs.declared.script.Call.TheVariants.{Find, Balance, Flush, Truncate}
 use Rattle.ledger_law.specs.Run.{Stepped, moment_of}
 use Rattle.ledger_law.proofs.Changing.{stepped_so}
 use Rattle.ledger_law.proofs.Tracing.{told_find, told_balance, told_flushing, told_truncating, find_stepped, balance_stepped, flush_stepped, truncate_stepped}
