@@ -22,7 +22,7 @@ use Rattle.book.specs.Edits.{Edit, edit, edited, declaring}
 use Rattle.plans.specs.declared.plan.Patch.{Patch}
 use Rattle.plans.specs.Plans.{edit_of}
 use Rattle.changes.specs.Changes.{Prepared, Changes}
-use Rattle.changes.specs.Steps.{Underway, Put, Puts, Finishes}
+use Rattle.changes.specs.Steps.{Underway, Put, Puts, Finishes, Performs}
 
 pub some_none : {A : Type 0} (o : Option A) (x : A) → o ≡ None → o ≡ Some x → ⊥
 some_none o x a b = let z : ◌≡◌ {A = ℕ} 0 1 = cc in omega arith
@@ -208,3 +208,9 @@ both_put s m p number x y xs a r is first second u few =
     let one = putting_takes s s m number all all (y ∷ []) x x (Ok a) (omega arith) refl refl (putting_starts s number all) first in
     let two = putting_takes s m p number all (y ∷ []) [] y y r (omega arith) refl refl (λ u' few'. (one u' few').1) second u few in
     (two.0, subst (λ (zs : List Edit). Put s zs p) is (two.1.so p (put_none p)))
+
+-- Begun, put in and committed, where neither the begin nor what was put in reached the device.
+pub performed : {D : Type 0} (disk : D → Disk) (s m p s' : State) (d d' e : D) (t : Token) (xs : List Edit) (flush : Bool) (put : Result (Unit {0}) StoreFault) (r : Result (ℕ × ℕ) StoreFault)
+    → Begins s (Ok t) m → Puts m t.number 5 xs put p → d' ≡ d → Finishes put p (disk d') t.number flush r s' (disk e) → Performs s (disk d) xs flush r s' (disk e)
+performed disk s m p s' d d' e t xs flush put r begins puts same finishes =
+    inr (begins.0, λ clean. subst (λ x. Changes s (disk x) xs flush r s' (disk e)) same (change_made s m p s' (disk d') (disk e) t xs flush put r begins puts finishes clean))
