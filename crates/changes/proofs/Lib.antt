@@ -1,3 +1,3 @@
 -- Lemmas on the steps of a change.
-pub mod Putting
+pub mod Patches
 pub mod Cells

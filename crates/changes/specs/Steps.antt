@@ -6,7 +6,10 @@ use Rattle.transactions.specs.declared.fault.StoreFault.{StoreFault}
 use Rattle.transactions.specs.declared.state.State.{State}
 use Rattle.transactions.specs.Calls.{Aborts, Commits}
 use Rattle.transactions.specs.Rows.{first_fit, begin_rows}
-use Rattle.book.specs.Edits.{Edit, edited, declaring}
+use Rattle.book.specs.Edits.{Edit, edited, declaring, make_edits}
+use Rattle.plans.specs.Plans.{edits_of}
+use Rattle.changes.specs.declared.performing.Work.{Work}
+use Rattle.changes.specs.declared.performing.Work.TheVariants.{Plan as Planned, Links}
 use Rattle.changes.specs.Changes.{Changes}
 
 -- A transaction is open, and the token with this number is its own.
@@ -24,6 +27,11 @@ pub record Put (s : State) (xs : List Edit) (p : State) : Type 0 where
   pub before : p.image.before ≡ s.image.before
   pub runs : declared p.image ≡ declaring xs (declared s.image)
   pub memory : (i : ℕ) → slice_index p.image.memory i ≡ edited xs i (slice_index s.image.memory i)
+
+-- What is put in for each kind of work.
+abbrev pub edits_in : Work → List Edit
+edits_in (Planned plan) = edits_of plan.now
+edits_in Links = make_edits
 
 -- Where so many runs more find room, the edits are made.
 abbrev pub Puts : State → ℕ → ℕ → List Edit → Result (Unit {0}) StoreFault → State → Type 0

@@ -4,6 +4,6 @@
 
 mod linking;
 mod performing;
+mod putting;
 
-pub use linking::link_cells;
-pub use performing::perform;
+pub use performing::{link_cells, perform};

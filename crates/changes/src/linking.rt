@@ -1,9 +1,9 @@
-// The free chain of a new ledger, and the transaction that links it.
+// The free chain of a new ledger, and putting it in.
 ghost use Rattle.std.specs.Prelude.{◌≡◌, true};
 ghost use Rattle.book.specs.Edits.{free_chain, make_edits};
-ghost use Rattle.changes.specs.Steps.{Puts, Performs};
+ghost use Rattle.changes.specs.Steps.{Puts};
 
-use crate::performing::{finish, put};
+use crate::putting::put;
 use book::{CELL, CELLS, Chain, cell_at};
 use device::Device;
 use transactions::{Store, StoreFault, Token};
@@ -24,19 +24,10 @@ fn links() -> [u8; BYTES]
 }
 
 // Puts in the free chain's head, and the cells.
-fn put_links<D: Device>(store: &mut Store<D>, token: &Token) -> Result<(), StoreFault>
+pub(crate) fn put_links<D: Device>(store: &mut Store<D>, token: &Token) -> Result<(), StoreFault>
     ensures done { Puts store.old.state token.now.number 5 make_edits result store.new.state }
     ensures device { store.new.device ≡ store.old.device }
 {
     put(store, token, Chain::Free.head(), &[1, 0])?;
     put(store, token, cell_at(1), &links())
-}
-
-// Links the cells of a new ledger by one transaction, with flush.
-pub fn link_cells<D: Device>(store: &mut Store<D>) -> Result<(u64, usize), StoreFault>
-    ensures { Performs store.old.state (D.Device.disk store.old.device) make_edits true result store.new.state (D.Device.disk store.new.device) }
-{
-    let token = store.begin()?;
-    let put = put_links(store, &token);
-    finish(store, token, put, true)
 }

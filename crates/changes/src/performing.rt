@@ -1,42 +1,34 @@
-// A plan as one transaction of a store.
-ghost use Rattle.std.specs.Prelude.{◌≡◌, ◌+◌, ◌≤◌, [], ◌∷◌, length};
-ghost use Rattle.book.specs.Edits.{edit};
+// Changes of the book, each by one transaction of a store.
+ghost use Rattle.std.specs.Prelude.{◌≡◌, true};
+ghost use Rattle.book.specs.Edits.{make_edits};
 ghost use Rattle.plans.specs.Plans.{edits_of};
-ghost use Rattle.changes.specs.Steps.{Puts, Finishes, Performs};
+ghost use Rattle.changes.specs.Steps.{edits_in, Puts, Finishes, Performs};
 
+use crate::linking::put_links;
+use crate::putting::put_all;
 use device::Device;
 use plans::Plan;
 use transactions::{Store, StoreFault, Token};
 
-// Declares these bytes and puts them in. That they lie in the memory is asked, since a store refuses others.
-pub(crate) fn put<D: Device>(
-    store: &mut Store<D>,
-    token: &Token,
-    start: usize,
-    bytes: &[u8],
-) -> Result<(), StoreFault>
-    requires some { 1 ≤ length bytes.now }
-    requires within { start + length bytes.now ≤ 6144 }
-    ensures done { Puts store.old.state token.now.number 1 (edit start bytes.now ∷ []) result store.new.state }
-    ensures device { store.new.device ≡ store.old.device }
-{
-    store.set_range(token, start, bytes.len())?;
-    store.write(token, start, bytes)
+// What a transaction puts in: a planned change, or the links of a new ledger's cells.
+#[derive(Clone, Copy)]
+pub(crate) enum Work<'a> {
+    Plan(&'a Plan),
+    Links,
 }
 
-// Puts in all that is planned.
-fn put_all<D: Device>(store: &mut Store<D>, token: &Token, plan: &Plan) -> Result<(), StoreFault>
-    ensures done { Puts store.old.state token.now.number 5 (edits_of plan.now) result store.new.state }
+fn put_work<D: Device>(store: &mut Store<D>, token: &Token, work: Work) -> Result<(), StoreFault>
+    ensures done { Puts store.old.state token.now.number 5 (edits_in work.entry) result store.new.state }
     ensures device { store.new.device ≡ store.old.device }
 {
-    for patch in plan.patches.iter() {
-        put(store, token, patch.start, &patch.bytes)?;
+    match work {
+        Work::Plan(plan) => put_all(store, token, plan),
+        Work::Links => put_links(store, token),
     }
-    Ok(())
 }
 
 // Commits where all was put in; where the store refused some of it, the transaction is undone.
-pub(crate) fn finish<D: Device>(
+fn finish<D: Device>(
     store: &mut Store<D>,
     token: Token,
     put: Result<(), StoreFault>,
@@ -51,6 +43,19 @@ pub(crate) fn finish<D: Device>(
     store.commit(token, flush)
 }
 
+// Begins a transaction, puts that in, and commits it.
+fn transact<D: Device>(
+    store: &mut Store<D>,
+    work: Work,
+    flush: bool,
+) -> Result<(u64, usize), StoreFault>
+    ensures { Performs store.old.state (D.Device.disk store.old.device) (edits_in work.entry) flush result store.new.state (D.Device.disk store.new.device) }
+{
+    let token = store.begin()?;
+    let put = put_work(store, &token, work);
+    finish(store, token, put, flush)
+}
+
 // Makes a planned change by one transaction: its bytes are declared, put in and committed. They lie in the memory, in
 // less runs than there is room for, so the store refuses none of them.
 pub fn perform<D: Device>(
@@ -60,7 +65,12 @@ pub fn perform<D: Device>(
 ) -> Result<(u64, usize), StoreFault>
     ensures { Performs store.old.state (D.Device.disk store.old.device) (edits_of plan.now) flush result store.new.state (D.Device.disk store.new.device) }
 {
-    let token = store.begin()?;
-    let put = put_all(store, &token, plan);
-    finish(store, token, put, flush)
+    transact(store, Work::Plan(plan), flush)
+}
+
+// Links the cells of a new ledger by one transaction, with flush.
+pub fn link_cells<D: Device>(store: &mut Store<D>) -> Result<(u64, usize), StoreFault>
+    ensures { Performs store.old.state (D.Device.disk store.old.device) make_edits true result store.new.state (D.Device.disk store.new.device) }
+{
+    transact(store, Work::Links, true)
 }

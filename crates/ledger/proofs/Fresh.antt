@@ -22,7 +22,7 @@ use Rattle.book.specs.Layout.{byte_in}
 use Rattle.book.specs.Edits.{make_edits, declaring, after_edits}
 use Rattle.book.proofs.Making.{free_chain_length, make_holds}
 use Rattle.changes.specs.Changes.{Prepared, Changes}
-use Rattle.changes.proofs.Putting.{some_none}
+use Rattle.changes.proofs.Patches.{some_none}
 use Rattle.book.specs.declared.fault.LedgerFault.{LedgerFault}
 use Rattle.book.specs.declared.fault.LedgerFault.TheVariants.{Store}
 use Rattle.book.specs.Fault.{number}

@@ -19,7 +19,7 @@ use Rattle.book.specs.Layout.{byte_in}
 use Rattle.book.specs.Book.{Book, Holds}
 use Rattle.book.specs.Edits.{Edit, after_edits}
 use Rattle.changes.specs.Changes.{Prepared, Changes}
-use Rattle.changes.proofs.Putting.{some_none, token_fits}
+use Rattle.changes.proofs.Patches.{some_none, token_fits}
 use Rattle.ledger.specs.Calls.{HoldsBook, on}
 use Rattle.ledger.specs.Steps.{Sound}
 

@@ -3,7 +3,7 @@ use Rattle.std.proofs.Common.{◌≡◌, ℕ, [], ◌∷◌, ◌∙◌, ap}
 use Rattle.book.specs.Edits.{Edit, edit, free_chain, make_edits}
 use Rattle.book.specs.Layout.{head_at, cell_at}
 use Rattle.record.specs.Fields.{digits}
-use Rattle.changes.proofs.Putting.{both_put}
+use Rattle.changes.proofs.Patches.{both_put}
 use Rattle.changes.proofs.Cells.{head_edit}
 use Rattle.changes.proofs.linking.put_links.Goals as goal
 

@@ -3,8 +3,8 @@ use Rattle.std.proofs.Common.{◌≡◌, ◌+◌, map, length, drop, Ok, Err, re
 use Rattle.std.proofs.lemmas.List.{length-map, drop_all}
 use Rattle.book.specs.Edits.{edit}
 use Rattle.plans.specs.Plans.{edit_of, edits_of}
-use Rattle.changes.proofs.Putting.{putting_starts, putting_takes, putting_ends, next_edit, err_ok}
-use Rattle.changes.proofs.performing.put_all.Goals as goal
+use Rattle.changes.proofs.Patches.{putting_starts, putting_takes, putting_ends, next_edit, err_ok}
+use Rattle.changes.proofs.putting.put_all.Goals as goal
 
 pub loop-patch-init : goal.loop-patch-init
 loop-patch-init g c = (putting_starts c.args.store.now.state c.args.token.now.number (edits_of c.args.plan.now), refl)

@@ -1,6 +1,6 @@
 -- Neither call is refused.
-use Rattle.changes.proofs.Putting.{not_set, put_done}
-use Rattle.changes.proofs.performing.put.Goals as goal
+use Rattle.changes.proofs.Patches.{not_set, put_done}
+use Rattle.changes.proofs.putting.put.Goals as goal
 
 pub returns-in_err-set_range-clause-done : goal.returns-in_err-set_range-clause-done
 returns-in_err-set_range-clause-done g c underway few =

@@ -1,8 +1,8 @@
 -- The patches below are put in.
 use Rattle.std.proofs.Common.{◌≡◌, drop}
 use Rattle.plans.specs.Plans.{edits_of}
-use Rattle.changes.proofs.Putting.{Putting}
-use Rattle.changes.proofs.performing.put_all.Given as goal
+use Rattle.changes.proofs.Patches.{Putting}
+use Rattle.changes.proofs.putting.put_all.Given as goal
 
 abbrev pub invariant-loop-patch : goal.invariant-loop-patch
 invariant-loop-patch g l =
