@@ -7,3 +7,4 @@ pub mod Calls
 pub mod Steps
 pub mod Truncation
 pub mod Pages
+pub mod Held

@@ -1,8 +1,6 @@
 // A store over a device, and its calls.
 ghost use Rattle.std.specs.Prelude.{◌≡◌};
-ghost use Rattle.transactions.specs.Calls.{Begins, SetsRange, WritesRange, ReadsRange, Lends, Aborts, Flushes, Commits};
-ghost use Rattle.transactions.specs.State.{Formatted, Opened, LiesOn};
-ghost use Rattle.transactions.specs.Truncation.{Truncates};
+ghost use Rattle.transactions.specs.State.{LiesOn};
 
 use crate::calls::{commit_store, flush_store};
 use crate::fault::StoreFault;
@@ -23,10 +21,12 @@ pub struct Store<D: Device> {
 }
 
 impl<D: Device> Store<D> {
+    ghost use Rattle.transactions.specs.Held.{held, Formatted, Opened, Begins, SetsRange, WritesRange, ReadsRange, Lends, Aborts, Flushes, Commits, Truncates};
+
     // Makes a new store on the device: zeros in its memory, and a log with one mark. Where that is
     // refused, or power fails, the store is off, and only close works.
     pub fn format(device: D) -> (Store<D>, Result<(), StoreFault>)
-        ensures { Formatted (D.Device.disk device) result.1 (D.Device.disk result.0.device) result.0.state }
+        ensures { Formatted (D.Device.disk device) result.1 (held result.0) }
     {
         let mut device = device;
         let mut state = off();
@@ -37,7 +37,7 @@ impl<D: Device> Store<D> {
     // Opens the store that the device holds, and answers the number of transactions found and how many
     // strays were cleared. Where that is refused, or power fails, the store is off, and only close works.
     pub fn open(device: D) -> (Store<D>, Result<(u64, usize), StoreFault>)
-        ensures { Opened (D.Device.disk device) result.1 (D.Device.disk result.0.device) result.0.state }
+        ensures { Opened (D.Device.disk device) result.1 (held result.0) }
     {
         let mut device = device;
         let mut state = off();
@@ -55,7 +55,7 @@ impl<D: Device> Store<D> {
 
     // Begins a transaction, and gives its token.
     pub fn begin(&mut self) -> Result<Token, StoreFault>
-        ensures state { Begins self.old.state result self.new.state }
+        ensures begins { Begins (held self.old) result (held self.new) }
         ensures device { self.new.device ≡ self.old.device }
     {
         self.state.may_begin()?;
@@ -65,7 +65,7 @@ impl<D: Device> Store<D> {
 
     // Declares so many bytes from `start` on.
     pub fn set_range(&mut self, token: &Token, start: usize, size: usize) -> Result<(), StoreFault>
-        ensures state { SetsRange self.old.state token.now.number start size result self.new.state }
+        ensures declares { SetsRange token.now.number start size (held self.old) result (held self.new) }
         ensures device { self.new.device ≡ self.old.device }
     {
         self.state.shown(token.number())?;
@@ -75,7 +75,7 @@ impl<D: Device> Store<D> {
 
     // Puts bytes into the memory from `start` on, where all of that is declared.
     pub fn write(&mut self, token: &Token, start: usize, bytes: &[u8]) -> Result<(), StoreFault>
-        ensures state { WritesRange self.old.state token.now.number start bytes.now result self.new.state }
+        ensures writes { WritesRange token.now.number start bytes.now (held self.old) result (held self.new) }
         ensures device { self.new.device ≡ self.old.device }
     {
         self.state.shown(token.number())?;
@@ -85,7 +85,7 @@ impl<D: Device> Store<D> {
 
     // Fills the buffer from the memory, bytes that are not committed too.
     pub fn read(&self, start: usize, buffer: &mut [u8]) -> Result<(), StoreFault>
-        ensures { ReadsRange self.now.state start buffer.old result buffer.new }
+        ensures { ReadsRange start (held self.now) buffer.old result buffer.new }
     {
         self.state.awake()?;
         self.state.image.read(start, buffer)?;
@@ -94,7 +94,7 @@ impl<D: Device> Store<D> {
 
     // Lends the memory to be looked at, bytes that are not committed too.
     pub fn memory(&self) -> Result<&[u8; MEMORY], StoreFault>
-        ensures { Lends self.now.state result }
+        ensures { Lends (held self.now) result }
     {
         self.state.awake()?;
         Ok(&self.state.image.memory)
@@ -103,14 +103,14 @@ impl<D: Device> Store<D> {
     // Ends the transaction: its records are written and settled, or wait in the spool. Answers its ordinal
     // and how many records it became. The token is spent on every way out.
     pub fn commit(&mut self, token: Token, flush: bool) -> Result<(u64, usize), StoreFault>
-        ensures { Commits self.old.state (D.Device.disk self.old.device) token.number flush result self.new.state (D.Device.disk self.new.device) }
+        ensures { Commits token.number flush (held self.old) result (held self.new) }
     {
         commit_store(&mut self.device, &mut self.state, token.spend(), flush)
     }
 
     // Ends the transaction and puts back each byte that it declared. The token is spent on every way out.
     pub fn abort(&mut self, token: Token) -> Result<(), StoreFault>
-        ensures state { Aborts self.old.state token.number result self.new.state }
+        ensures aborts { Aborts token.number (held self.old) result (held self.new) }
         ensures device { self.new.device ≡ self.old.device }
     {
         self.state.shown(token.spend())?;
@@ -120,14 +120,14 @@ impl<D: Device> Store<D> {
 
     // Writes and settles what waits, and answers how many records that were.
     pub fn flush(&mut self) -> Result<usize, StoreFault>
-        ensures { Flushes self.old.state (D.Device.disk self.old.device) result self.new.state (D.Device.disk self.new.device) }
+        ensures { Flushes (held self.old) result (held self.new) }
     {
         flush_store(&mut self.device, &mut self.state)
     }
 
     // Writes dirty pages home and begins the log anew at a mark. Answers how many pages were dirty.
     pub fn truncate(&mut self) -> Result<usize, StoreFault>
-        ensures { Truncates self.old.state (D.Device.disk self.old.device) result self.new.state (D.Device.disk self.new.device) }
+        ensures { Truncates (held self.old) result (held self.new) }
     {
         truncate_store(&mut self.device, &mut self.state)
     }

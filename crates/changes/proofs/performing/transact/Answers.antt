@@ -10,5 +10,5 @@ returns g c =
     let p = c.put_work-put.new.store in
     let t = c.finish.new.store in
     performed g.D.Device.disk s.state c.begin.new.self.state p.state t.state s.device p.device t.device c.in_ok-token.token (edits_in c.args.work) c.args.flush c.put_work-put.result c.finish.result
-    c.in_ok-token.ensures.state c.put_work-put.ensures.done
+    c.in_ok-token.ensures.begins.0 c.put_work-put.ensures.done
     (c.put_work-put.ensures.device ∙ c.in_ok-token.ensures.device) c.finish.ensures

@@ -4,8 +4,8 @@ use Rattle.changes.proofs.putting.put.Goals as goal
 
 pub returns-in_err-set_range-clause-done : goal.returns-in_err-set_range-clause-done
 returns-in_err-set_range-clause-done g c underway few =
-    absurd (not_set c.args.store.now.state c.set_range.new.self.state c.args.token.now.number c.args.start c.args.bytes.now c.in_err-set_range.field-0.0 underway few c.requires.some c.requires.within c.in_err-set_range.ensures.state)
+    absurd (not_set c.args.store.now.state c.set_range.new.self.state c.args.token.now.number c.args.start c.args.bytes.now c.in_err-set_range.field-0.0 underway few c.requires.some c.requires.within c.in_err-set_range.ensures.declares.0)
 
 pub returns-clause-done : goal.returns-clause-done
 returns-clause-done g c underway few =
-    put_done c.args.store.now.state c.set_range.new.self.state c.write.new.self.state c.args.token.now.number c.args.start c.args.bytes.now c.in_ok-set_range.field-0 c.write.result underway few c.requires.some c.requires.within c.in_ok-set_range.ensures.state c.write.ensures.state
+    put_done c.args.store.now.state c.set_range.new.self.state c.write.new.self.state c.args.token.now.number c.args.start c.args.bytes.now c.in_ok-set_range.field-0 c.write.result underway few c.requires.some c.requires.within c.in_ok-set_range.ensures.declares.0 c.write.ensures.writes.0
