@@ -2,5 +2,6 @@
 pub mod Overlay
 pub mod Places
 pub mod Steps
+pub mod Tables
 pub mod Telling
 pub mod Unique

@@ -3,4 +3,5 @@ pub mod Log
 pub mod Memory
 pub mod Notes
 pub mod Opening
+pub mod Pages
 pub mod Survey

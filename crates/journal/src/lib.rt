@@ -5,9 +5,11 @@
 ghost use Rattle.journal.specs.Opening.{Determined};
 
 mod note;
+mod pages;
 mod survey;
 
 pub use note::{Note, look_at, note_of, of_serial, record_at};
+pub use pages::PageTable;
 use record::{PAGE, PAGES};
 pub use survey::{LogFault, Survey, survey_of};
 

@@ -6,9 +6,10 @@ use Rattle.record.specs.Entry.{Entry}
 use Rattle.journal.specs.Memory.{applied, replayed}
 use Rattle.journal.proofs.Overlay.{overlaid_below, overlaid_above}
 use Rattle.journal.proofs.Places.{Kept}
+use Rattle.journal.specs.Pages.{names, covers, in_log}
 use Rattle.durability.specs.Items.{Item, recorded}
 use Rattle.durability.proofs.Growth.{At}
-use Rattle.transactions.specs.Truncation.{names, covers, in_log, in_items, page_item}
+use Rattle.transactions.specs.Truncation.{in_items, page_item}
 
 -- one test or the other
 

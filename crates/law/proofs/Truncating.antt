@@ -11,6 +11,7 @@ use Rattle.device.proofs.Plans.{done_plate}
 use Rattle.journal.specs.Log.{log}
 use Rattle.journal.specs.Memory.{byte_of, from_home}
 use Rattle.journal.proofs.Places.{kept}
+use Rattle.journal.specs.Pages.{names}
 use Rattle.durability.specs.Items.{Item, put_in, ordinal_after}
 use Rattle.durability.specs.Promises.{BeforeItems, BeforeHomes, BeforeMark, AtHome}
 use Rattle.durability.specs.Standing.{Firm, OpensTo, Choice}
@@ -26,7 +27,7 @@ use Rattle.transactions.specs.declared.state.State.{State}
 use Rattle.transactions.specs.Calls.{writing}
 use Rattle.transactions.specs.Rows.{first_fit, off, busy, serials}
 use Rattle.transactions.specs.State.{live, spooled}
-use Rattle.transactions.specs.Truncation.{names, is_dirty, is_due, dirty_pages, due_pages, crowded, truncate_rows, flushing, covering, going_home}
+use Rattle.transactions.specs.Truncation.{is_dirty, is_due, dirty_pages, due_pages, crowded, truncate_rows, flushing, covering, going_home}
 use Rattle.transactions.proofs.Flagging.{chosen_has}
 use Rattle.law.specs.Transactions.{made_of}
 use Rattle.law.specs.History.{History, Resting, Safe}

@@ -1,5 +1,5 @@
 -- Records noted one after another, live ones and those that wait.
-use Rattle.std.proofs.Common.{◌≡◌, ℕ, ◌+◌, ◌<◌, ◌≤◌, Bool, true, false, cond, List, [], ◌∷◌, length, drop, Err, sym, refl, ap, ◌∙◌, subst, add-one}
+use Rattle.std.proofs.Common.{◌≡◌, ℕ, ◌+◌, ◌<◌, ◌≤◌, Bool, true, false, cond, List, [], ◌∷◌, length, drop, Err, sym, refl, ap, ◌∙◌, subst}
 use Rattle.std.proofs.lemmas.List.{drop_all}
 use Rattle.device.specs.declared.fault.DeviceFault.{DeviceFault}
 use Rattle.device.specs.declared.fault.DeviceFault.TheVariants.{Power, Misaddressed, Unfit, Spoiled}
@@ -8,14 +8,16 @@ use Rattle.device.specs.Meaning.{Failed}
 use Rattle.recovery.specs.Reading.{Looks}
 use Rattle.record.specs.Entry.{Entry}
 use Rattle.journal.specs.Log.{log as log_of}
+use Rattle.journal.specs.Pages.{Agree, names, covers, in_log}
+use Rattle.journal.proofs.Tables.{in_log_none, in_log_more}
 use Rattle.durability.specs.Items.{Item, recorded}
 use Rattle.transactions.specs.declared.log.Log.{Log}
 use Rattle.transactions.specs.declared.pages.Page.{Page}
 use Rattle.transactions.specs.declared.state.State.{State}
-use Rattle.transactions.specs.Pages.{named_in, covered_in, Agree, Noted, FoundFirst, FoundWaiting, Found}
+use Rattle.transactions.specs.Pages.{named_in, covered_in, Noted, FoundFirst, FoundWaiting, Found}
 use Rattle.transactions.specs.Parts.{Spool, waiting}
 use Rattle.transactions.specs.State.{live}
-use Rattle.transactions.specs.Truncation.{names, covers, in_log, in_items, said_of}
+use Rattle.transactions.specs.Truncation.{in_items, said_of}
 
 -- tests joined by `or`, in other groups and orders
 
@@ -33,14 +35,6 @@ or_none true = refl
 or_none false = refl
 
 -- the first of a log's records, and one more
-
-in_log_none : (says : Entry → ℕ → Bool) (l : ℕ → Entry) (low p : ℕ) → in_log says l low 0 p ≡ false
-unfolding in_log
-in_log_none says l low p = refl
-
-pub in_log_more : (says : Entry → ℕ → Bool) (l : ℕ → Entry) (low k p : ℕ) → in_log says l low (k + 1) p ≡ cond (says (l (low + k)) p) true (in_log says l low k p)
-unfolding in_log
-in_log_more says l low k p = rw add-one refl
 
 flags_none : (says : Entry → ℕ → Bool) (l : ℕ → Entry) (low : ℕ) (flags : ℕ → Bool) → Agree flags (λ p. cond (in_log says l low 0 p) true (flags p))
 flags_none says l low flags p small = ap (λ (b : Bool). cond b true (flags p)) (sym (in_log_none says l low p))

@@ -7,6 +7,7 @@ use Rattle.device.specs.declared.fault.DeviceFault.TheVariants.{Power, Misaddres
 use Rattle.device.specs.Disk.{Disk, Shown, Among}
 use Rattle.device.specs.Trace.{Tries}
 use Rattle.journal.specs.Log.{log}
+use Rattle.journal.specs.Pages.{names, in_log}
 use Rattle.durability.specs.Items.{Item, recorded}
 use Rattle.transactions.specs.declared.fault.StoreFault.TheVariants.{Device}
 use Rattle.transactions.specs.declared.pages.Page.{Page}
@@ -17,7 +18,7 @@ use Rattle.transactions.specs.Pages.{named_in, covered_in, needed, Found, FoundD
 use Rattle.transactions.specs.Parts.{Spool, item_of, waiting}
 use Rattle.transactions.specs.Rows.{first_fit}
 use Rattle.transactions.specs.State.{live, spooled}
-use Rattle.transactions.specs.Truncation.{names, in_log, in_items, is_dirty, is_due, chosen, dirty_pages, due_pages, crowded, truncating, truncation, PagesAnswer}
+use Rattle.transactions.specs.Truncation.{in_items, is_dirty, is_due, chosen, dirty_pages, due_pages, crowded, truncating, truncation, PagesAnswer}
 use Rattle.transactions.proofs.Flagging.{chosen_same, chosen_has}
 
 -- what is noted chooses the dirty pages and those that are due

@@ -3,12 +3,13 @@ use Rattle.std.specs.Prelude.{◌≡◌, ℕ, ◌+◌, ◌-◌, ◌<◌, Bool, t
 use Rattle.record.specs.Entry.{Entry}
 use Rattle.device.specs.Disk.{Shown}
 use Rattle.journal.specs.Log.{log as log_of}
+use Rattle.journal.specs.Pages.{names, covers, in_log, Agree}
 use Rattle.transactions.specs.declared.log.Log.{Log}
 use Rattle.transactions.specs.declared.pages.Page.{Page}
 use Rattle.transactions.specs.declared.pages.Dirty.{Dirty}
 use Rattle.transactions.specs.declared.state.State.{State}
 use Rattle.transactions.specs.Parts.{Spool, waiting}
-use Rattle.transactions.specs.Truncation.{names, covers, in_log, in_items, said_of, dirty_pages, due_pages}
+use Rattle.transactions.specs.Truncation.{in_items, said_of, dirty_pages, due_pages}
 
 -- Page p is named, or covered.
 abbrev pub unsaid : Page
@@ -23,10 +24,6 @@ covered_in ps p = (slice_index_or ps p unsaid).covered
 -- It is named and not covered.
 abbrev pub needed : List Page → ℕ → Bool
 needed ps p = cond (named_in ps p) (not (covered_in ps p)) false
-
--- Two tests agree on the 64 pages.
-abbrev pub Agree : (ℕ → Bool) → (ℕ → Bool) → Type 0
-Agree test test' = (p : ℕ) → p < 64 → test p ≡ test' p
 
 -- This is said of the page beside what was said; the others are as they were.
 pub record Told (page : ℕ) (said : Page) (before after : List Page) : Type 0 where

@@ -7,6 +7,7 @@ use Rattle.device.specs.Meaning.{Failed}
 use Rattle.device.specs.Trace.{Act, settled, Done, CutShort}
 use Rattle.record.specs.Entry.{Entry}
 use Rattle.journal.specs.Log.{log}
+use Rattle.journal.specs.Pages.{names, covers, in_log}
 use Rattle.durability.specs.Items.{Item, appending, recorded}
 use Rattle.durability.specs.Promises.{homing, marking}
 use Rattle.transactions.specs.declared.fault.StoreFault.{StoreFault}
@@ -16,19 +17,7 @@ use Rattle.transactions.specs.Calls.{writing}
 use Rattle.transactions.specs.Rows.{Row, first_fit, off, busy, serials}
 use Rattle.transactions.specs.State.{live, spooled, StandsAt}
 
--- The record is a part or a page record of page p; it has all the bytes of page p.
-abbrev pub names : Entry → ℕ → Bool
-names e p = cond (e.page == p) (cond (nat_le 1 e.kind) (nat_lt e.kind 4) false) false
-
-abbrev pub covers : Entry → ℕ → Bool
-covers e p = cond (e.page == p) (length e.bytes == 96) false
-
--- One of k records of a log, from serial low on, says so of page p.
-unfoldable pub in_log : (Entry → ℕ → Bool) → (ℕ → Entry) → ℕ → ℕ → ℕ → Bool
-in_log says log low zero p = false
-in_log says log low (suc k) p = cond (says (log (low + k)) p) true (in_log says log low k p)
-
--- One of these items does; serials do not matter here.
+-- One of these items says so of page p; serials do not matter here.
 abbrev pub in_items : (Entry → ℕ → Bool) → List Item → ℕ → Bool
 in_items says [] p = false
 in_items says (x ∷ xs) p = cond (says (recorded 0 0 x) p) true (in_items says xs p)
