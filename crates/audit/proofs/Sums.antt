@@ -6,8 +6,8 @@ use Rattle.std.proofs.lemmas.Bool.{cases_Bool}
 use Rattle.std.proofs.lemmas.Bool.Decides.{nat_tests}
 use Rattle.std.specs.Option.{option_eq}
 use Rattle.record.specs.Fields.{digits}
-use Rattle.book.specs.Layout.{balance_at, Stands}
-use Rattle.book.specs.Book.{Book, Money, sum_to}
+use Rattle.book.specs.Layout.{balance_at, sum_to, Stands}
+use Rattle.book.specs.Book.{Book, Money}
 use Rattle.book.proofs.Sums.{sum_least}
 use Rattle.audit.specs.Judging.{MoneyJudged}
 use Rattle.audit.proofs.Standing.{number_same}

@@ -5,8 +5,8 @@ use Rattle.record.specs.Fields.{digits}
 use Rattle.book.specs.declared.records.Tag.{Tag}
 use Rattle.book.specs.declared.records.Entry.{Entry}
 use Rattle.book.specs.Records.{bucket_of, entry_kind, entry_content, tag_kind, tag_content}
-use Rattle.book.specs.Layout.{Stands, balance_at, bucket_chain, cell, Cell}
-use Rattle.book.specs.Book.{Book, At, at, IsAccount, Money, Records, Holds, GoodEntries, GoodTags, cells_of, entry_cell, tag_cell, sum_to}
+use Rattle.book.specs.Layout.{Stands, balance_at, sum_to, bucket_chain, cell, Cell}
+use Rattle.book.specs.Book.{Book, At, at, IsAccount, Money, Records, Holds, GoodEntries, GoodTags, cells_of, entry_cell, tag_cell}
 use Rattle.book.specs.Rows.{first_fit, issue_rows, move_rows, visit_rows, enrol_rows, paying_rows, no_account, same, nothing, short, no_cell, too_much, present, account_of, is_empty}
 use Rattle.book.specs.Edits.{Edit, edit, after_edits, head_or_0, with_at, issue_edits, issued_to, entry, move_edits, moved, paying_edits, visit_edits, paid, visited, tag, enrol_edits, enrolled}
 use Rattle.book.proofs.Standing.{put_keeps, put, put_stands, digits_length, entry_length, tag_length}

@@ -17,3 +17,4 @@ pub mod Finding
 pub mod Changes
 pub mod Unlinking
 pub mod Making
+pub mod Conserving

@@ -3,8 +3,8 @@ use Rattle.std.proofs.Common.{◌≡◌, ℕ, zero, suc, ◌+◌, ◌*◌, ◌<�
 use Rattle.std.proofs.lemmas.Bool.{cases_eq, cases_lt, eq-eqb, ne_eqb}
 use Rattle.std.proofs.lemmas.List.{length-replicate, get_or-replicate}
 use Rattle.record.specs.Fields.{digits}
-use Rattle.book.specs.Layout.{Stands, balance_at, head_at, cell_at, whole, Chain, Lies}
-use Rattle.book.specs.Book.{sum_to, Money, Chains, Zeros, Holds, free_cell, cells_of, numbers_from, new_book}
+use Rattle.book.specs.Layout.{Stands, balance_at, sum_to, head_at, cell_at, whole, Chain, Lies}
+use Rattle.book.specs.Book.{Money, Chains, Zeros, Holds, free_cell, cells_of, numbers_from, new_book}
 use Rattle.book.specs.Edits.{edit, after_edits, head_or_0, free_chain, make_edits}
 use Rattle.book.proofs.Standing.{Kept, put, put_stands, edits_keep, stands_front, stands_back, whole_next, whole_held, whole_length, blank_length, digits_length}
 use Rattle.book.proofs.Places.{Apart, head_within, heads_apart}

@@ -1,7 +1,7 @@
 -- One number changed among many, and the sum of the balances after that.
 use Rattle.std.proofs.Common.{◌≡◌, ℕ, zero, suc, ◌+◌, ◌≤◌, ◌≢◌, eqb, cond, refl, sym, ap, ◌∙◌, ⊎_elim, arith}
 use Rattle.std.proofs.lemmas.Bool.{cases_eq, eq-eqb, ne_eqb}
-use Rattle.book.specs.Book.{sum_to}
+use Rattle.book.specs.Layout.{sum_to}
 use Rattle.book.specs.Edits.{with_at}
 
 pub with_same : {X : Type 0} → (a : ℕ) (x : X) (f : ℕ → X) → with_at a x f a ≡ x

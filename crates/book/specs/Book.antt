@@ -4,7 +4,7 @@ use Rattle.record.specs.Fields.{digits}
 use Rattle.book.specs.declared.records.Tag.{Tag}
 use Rattle.book.specs.declared.records.Entry.{Entry}
 use Rattle.book.specs.Records.{tag_kind, tag_content, TagFits, bucket_of, entry_kind, entry_content, EntryFits, blank_content}
-use Rattle.book.specs.Layout.{Stands, balance_at, head_at, Cell, cell, Chain, InCells, Lies}
+use Rattle.book.specs.Layout.{Stands, balance_at, sum_to, head_at, Cell, cell, Chain, InCells, Lies}
 
 -- A record and the number of the cell that it lies in.
 pub record At (X : Type 0) : Type 0 where
@@ -34,11 +34,6 @@ tag_cell x = cell x.number tag_kind (tag_content x.item)
 -- The cells of each chain, by the chain's number.
 abbrev pub cells_of : Book → ℕ → List Cell
 cells_of b c = cond (c == 0) (map free_cell b.free) (cond (nat_le c 64) (map entry_cell (b.entries c)) (map tag_cell (b.tags (c - 65))))
-
--- The sum of the balances of accounts 1 to n.
-unfoldable pub sum_to : ℕ → (ℕ → ℕ) → ℕ
-sum_to zero balances = 0
-sum_to (suc n) balances = sum_to n balances + balances (suc n)
 
 abbrev pub IsAccount : ℕ → Type 0
 IsAccount a = (1 ≤ a) × (a ≤ 64)

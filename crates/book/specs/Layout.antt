@@ -1,5 +1,5 @@
 -- Where everything stands in the memory of a ledger, and chains of cells in it.
-use Rattle.std.specs.Prelude.{◌≡◌, ℕ, ◌+◌, ◌-◌, ◌*◌, ◌<◌, ◌≤◌, cond, ◌⊎◌, List, [], ◌∷◌, ◌++◌, length, nat_le, slice_index}
+use Rattle.std.specs.Prelude.{◌≡◌, ℕ, zero, suc, ◌+◌, ◌-◌, ◌*◌, ◌<◌, ◌≤◌, cond, ◌⊎◌, List, [], ◌∷◌, ◌++◌, length, nat_le, slice_index}
 use Rattle.record.specs.Fields.{digits}
 
 -- The memory byte by byte.
@@ -13,6 +13,11 @@ Stands f a bytes = (i : ℕ) → i < length bytes → f (a + i) ≡ slice_index 
 -- The total stands at the front, in 8 bytes. Account a, from 1 to 64, has its balance in 8 bytes here.
 abbrev pub balance_at : ℕ → ℕ
 balance_at a = 16 * a
+
+-- The sum of the balances of accounts 1 to n.
+unfoldable pub sum_to : ℕ → (ℕ → ℕ) → ℕ
+sum_to zero balances = 0
+sum_to (suc n) balances = sum_to n balances + balances (suc n)
 
 -- Chains by number: 0 is the free one, 1 to 64 have the entries of those accounts, 65 to 80 are the 16 buckets.
 -- Each has its head, an index in 2 bytes, here.

@@ -7,3 +7,4 @@ pub mod Heads
 pub mod Book
 pub mod Rows
 pub mod Edits
+pub mod Conserved
