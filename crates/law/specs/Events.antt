@@ -1,202 +1,145 @@
--- What happens in a run: each call, what it answered, and what it made of the store and the device.
-use Rattle.std.specs.Prelude.{◌≡◌, ℕ, min, Bool, true, false, cond, not, ◌&&◌, ◌⊎◌, List, [], ◌∷◌, ◌++◌, length, take, replicate, Some, None, Ok, Err, Option, Result, nat_le}
+-- What happens in a run of a store: each call, what it answered and left, and the calls that it made on the device.
+use Rattle.std.specs.Prelude.{◌≡◌, ℕ, Bool, true, false, cond, not, ◌&&◌, ◌⊎◌, List, [], ◌∷◌, ◌++◌, length, replicate, Some, None, Ok, Err, Option, Result, nat_le}
 use Rattle.arrayvec.specs.ArrayVec.{array_vec_len}
+use Rattle.device.specs.declared.fault.DeviceFault.TheVariants.{Power}
 use Rattle.device.specs.Disk.{Disk, Shown}
-use Rattle.device.specs.Trace.{Act, Done, Cut}
+use Rattle.device.specs.Meaning.{Restarted}
+use Rattle.device.specs.Trace.{Act, looked, restarted, Done, Cut}
 use Rattle.image.specs.Calls.{declared, none}
+use Rattle.recovery.specs.Clearing.{clearing}
+use Rattle.recovery.specs.Format.{formatting}
+use Rattle.recovery.specs.Opening.{Divides}
 use Rattle.transactions.specs.declared.fault.StoreFault.{StoreFault}
+use Rattle.transactions.specs.declared.fault.StoreFault.TheVariants.{Device}
 use Rattle.transactions.specs.declared.state.State.{State}
 use Rattle.transactions.specs.declared.token.Token.{Token}
-use Rattle.transactions.specs.Calls.{Begins, SetsRange, WritesRange, ReadsRange, Aborts, Flushes, Commits, writing}
+use Rattle.transactions.specs.Calls.{writing}
+use Rattle.transactions.specs.Held.{Held, Formatted, Opened, Begins, SetsRange, WritesRange, ReadsRange, Commits, Aborts, Flushes, Truncates}
 use Rattle.transactions.specs.Rows.{first_fit, token_rows, commit_rows}
-use Rattle.transactions.specs.State.{spooled, own, Opened}
-use Rattle.transactions.specs.Truncation.{dirty_pages, due_pages, truncate_rows, truncation, CutReading, Truncates}
-use Rattle.law.specs.declared.script.Slot.{Slot}
-use Rattle.law.specs.declared.script.Slot.TheVariants.{First, Second}
-use Rattle.law.specs.declared.script.Deed.{Deed}
-use Rattle.law.specs.declared.script.Deed.TheVariants.{Begin, SetRange, Write, Commit, Abort}
-use Rattle.law.specs.declared.script.Call.{Call}
-use Rattle.law.specs.declared.script.Call.TheVariants.{With, Read, Flush, Truncate, Reopen}
-use Rattle.law.specs.declared.script.Told.{Told}
-use Rattle.law.specs.declared.script.Told.TheVariants as told
+use Rattle.transactions.specs.State.{OpenOn, spooled, own}
+use Rattle.transactions.specs.Truncation.{dirty_pages, due_pages, truncate_rows, truncation, CutReading}
 
--- What a call of a script answers: what it is told as, or the store's refusal.
-abbrev pub Answer : Type 0
-Answer = Result Told StoreFault
+-- A run between two calls: a store works on its device, or the device lies alone.
+pub data Moment : Type 0 where
+  working : Held → Moment
+  closed : Disk → Moment
 
--- The run between two calls: the store, its device, and the tokens that are held.
-pub record Moment : Type 0 where
-  pub state : State
-  pub disk : Disk
-  pub first : Option Token
-  pub second : Option Token
+abbrev pub disk_at : Moment → Disk
+disk_at (working h) = h.disk
+disk_at (closed d) = d
 
-abbrev pub moment : State → Disk → Option Token → Option Token → Moment
-moment s d first second = record { state = s; disk = d; first = first; second = second }
+-- A call with its arguments and its answer. A token is its number, and may be any number at all. A reading has its
+-- buffer before it and after it.
+pub data Call : Type 0 where
+  format : Result (Unit {0}) StoreFault → Call
+  opening : Result (ℕ × ℕ) StoreFault → Call
+  close : Call
+  begin : Result Token StoreFault → Call
+  set_range : ℕ → ℕ → ℕ → Result (Unit {0}) StoreFault → Call
+  write : ℕ → ℕ → List ℕ → Result (Unit {0}) StoreFault → Call
+  read : ℕ → List ℕ → Result (Unit {0}) StoreFault → List ℕ → Call
+  commit : ℕ → Bool → Result (ℕ × ℕ) StoreFault → Call
+  abort : ℕ → Result (Unit {0}) StoreFault → Call
+  flush : Result ℕ StoreFault → Call
+  truncate : Result ℕ StoreFault → Call
 
--- A call, its answer, the run before and after it, and the writes and barriers that a commit, a flush or a
--- truncation made: those that succeeded.
+-- A call, the run before and after it, and the calls that it made on the device: those that succeeded, in their
+-- order, and the one that power cut, if any.
 pub record Event : Type 0 where
   pub call : Call
-  pub answer : Answer
   pub before : Moment
+  pub done : List Act
+  pub cut : Option Act
   pub after : Moment
-  pub made : List Act
 
--- What the answers of the store's calls are told as.
-abbrev pub told_done : Result (Unit {0}) StoreFault → Answer
-told_done (Ok _) = Ok told.Done
-told_done (Err f) = Err f
+-- Power cut this call of a plan, once those before it had succeeded.
+pub record CutAt (d : Disk) (plan done : List Act) (act : Act) (o : ℕ) (e : Disk) : Type 0 where
+  pub rest : List Act
+  pub all : done ++ (act ∷ rest) ≡ plan
+  pub reached : Disk
+  pub did : Done d done reached
+  pub cut : Cut act reached o e
 
-abbrev pub told_commit : Result (ℕ × ℕ) StoreFault → Answer
-told_commit (Ok x) = Ok (told.Committed x.0 x.1)
-told_commit (Err f) = Err f
+-- The plan of a call that answers so: all of it succeeded where the call answers well. Where power failed, one call of it
+-- was cut and those before that succeeded. A call that refuses has no plan.
+abbrev pub Tried : {A : Type 0} → List Act → Disk → List Act → Option Act → Result A StoreFault → Disk → Type 0
+Tried plan d done None (Ok _) e = (done ≡ plan) × Done d plan e
+Tried plan d done (Some act) (Ok _) e = ⊥
+Tried plan d done None (Err _) e = (plan ≡ []) × (done ≡ []) × (e ≡ d)
+Tried plan d done (Some act) (Err f) e = (o : ℕ) × (f ≡ Device (Power o)) × CutAt d plan done act o e
 
-abbrev pub told_flush : Result ℕ StoreFault → Answer
-told_flush (Ok k) = Ok (told.Flushed k)
-told_flush (Err f) = Err f
+-- No call was made on the device.
+abbrev pub Silent : List Act → Option Act → Type 0
+Silent done cut = (done ≡ []) × (cut ≡ None)
 
-abbrev pub told_truncate : Result ℕ StoreFault → Answer
-told_truncate (Ok k) = Ok (told.Truncated k)
-told_truncate (Err f) = Err f
+-- A format tries its plan on a device that has room for a log; else it makes no call.
+abbrev pub FormatTried : Disk → List Act → Option Act → Result (Unit {0}) StoreFault → Disk → Type 0
+FormatTried d done cut r e =
+    ((n : ℕ) × Divides d.plate.sectors n × Tried (formatting n) d done cut r e) ⊎ (Silent done cut × (e ≡ d))
 
-abbrev pub told_open : Result (ℕ × ℕ) StoreFault → Answer
-told_open (Ok x) = Ok (told.Opened x.0 x.1)
-told_open (Err f) = Err f
-
-abbrev pub told_read : Result (Unit {0}) StoreFault → List ℕ → Answer
-told_read (Ok _) bytes = Ok (told.Bytes bytes)
-told_read (Err f) bytes = Err f
-
--- The token in a place, and that only this place has another token afterwards.
-abbrev pub held_in : Slot → Moment → Option Token
-held_in First m = m.first
-held_in Second m = m.second
-
-abbrev pub HoldsThen : Slot → Moment → Option Token → Moment → Type 0
-HoldsThen First m held m' = (m'.first ≡ held) × (m'.second ≡ m.second)
-HoldsThen Second m held m' = (m'.second ≡ held) × (m'.first ≡ m.first)
-
--- No call was made.
-pub record Passed (s : State) (d : Disk) (held : Option Token) (a : Answer) (s' : State) (e : Disk) (held' : Option Token) : Type 0 where
-  pub idle : a ≡ Ok told.Idle
-  pub state : s' ≡ s
-  pub device : e ≡ d
-  pub token : held' ≡ held
-
--- What is done with a token, by the exact relation of each call.
-abbrev pub Acts : Deed → State → Disk → Option Token → Answer → State → Disk → Option Token → Type 0
-Acts Begin s d (Some t) a s' e held = Passed s d (Some t) a s' e held
-Acts Begin s d None a s' e held =
-    (e ≡ d) × (((t : Token) × (a ≡ Ok (told.Begun t.number)) × (held ≡ Some t) × Begins s (Ok t) s')
-    ⊎ ((f : StoreFault) × (a ≡ Err f) × (held ≡ None) × Begins s (Err f) s'))
-Acts (SetRange start size) s d None a s' e held = Passed s d None a s' e held
-Acts (SetRange start size) s d (Some t) a s' e held =
-    (e ≡ d) × (held ≡ Some t) × ((r : Result (Unit {0}) StoreFault) × (a ≡ told_done r) × SetsRange s t.number start size r s')
-Acts (Write start bytes) s d None a s' e held = Passed s d None a s' e held
-Acts (Write start bytes) s d (Some t) a s' e held =
-    (e ≡ d) × (held ≡ Some t) × ((r : Result (Unit {0}) StoreFault) × (a ≡ told_done r) × WritesRange s t.number start bytes.now r s')
-Acts (Commit flush) s d None a s' e held = Passed s d None a s' e held
-Acts (Commit flush) s d (Some t) a s' e held =
-    (held ≡ None) × ((r : Result (ℕ × ℕ) StoreFault) × (a ≡ told_commit r) × Commits s d t.number flush r s' e)
-Acts Abort s d None a s' e held = Passed s d None a s' e held
-Acts Abort s d (Some t) a s' e held =
-    (e ≡ d) × (held ≡ None) × ((r : Result (Unit {0}) StoreFault) × (a ≡ told_done r) × Aborts s t.number r s')
-
--- Reads up to 96 bytes, flushes, truncates, or is closed and opened again.
-abbrev pub Reading : State → ℕ → ℕ → Answer → Type 0
-Reading s start size a =
-    (r : Result (Unit {0}) StoreFault) × (bytes : List ℕ) × (a ≡ told_read r bytes)
-    × ReadsRange s start (replicate (min size 96) 0) r (take (min size 96) bytes)
-
-abbrev pub Flushing : State → Disk → Answer → State → Disk → Type 0
-Flushing s d a s' e = (r : Result ℕ StoreFault) × (a ≡ told_flush r) × Flushes s d r s' e
-
-abbrev pub Truncating : State → Disk → Answer → State → Disk → Type 0
-Truncating s d a s' e = (r : Result ℕ StoreFault) × (a ≡ told_truncate r) × Truncates s d r s' e
-
-abbrev pub Opening : Disk → Answer → Disk → State → Type 0
-Opening d a e s = (r : Result (ℕ × ℕ) StoreFault) × (a ≡ told_open r) × Opened d r e s
+-- An opening restarts the device and looks at it as often as it needs. Where it finds a log, it clears the strays above
+-- it. Power may cut the restart, or what follows it.
+abbrev pub OpeningTried : Disk → List Act → Option Act → Result (ℕ × ℕ) StoreFault → Held → Type 0
+OpeningTried d done None (Ok x) k =
+    (o : Opened d (Ok x) k) × (looks : ℕ)
+    × (done ≡ restarted ∷ (replicate looks looked ++ clearing o.places o.restarted.shows k.state.log.last))
+OpeningTried d done (Some act) (Ok x) k = ⊥
+OpeningTried d done None (Err f) k =
+    ((done ≡ []) × (k.disk ≡ d)) ⊎ (Restarted d k.disk × (looks : ℕ) × (done ≡ restarted ∷ replicate looks looked))
+OpeningTried d done (Some act) (Err f) k =
+    (o : ℕ) × (f ≡ Device (Power o))
+    × (((done ≡ []) × (act ≡ restarted))
+    ⊎ ((m : Disk) × Restarted d m × (looks n c : ℕ) × (more : List Act) × (done ≡ restarted ∷ more)
+    × CutAt m (replicate looks looked ++ clearing n m.shows c) more act o k.disk))
 
 -- No row fits.
 abbrev pub fits_none : Option StoreFault → Bool
 fits_none None = true
 fits_none (Some _) = false
 
--- A commit with at least one record passes its checks: the transaction is entered, even if power then fails.
-abbrev pub does_enter : State → Option Token → Bool → Bool
-does_enter s None flush = false
-does_enter s (Some t) flush =
-    fits_none (first_fit (token_rows s t.number)) && not (none (declared s.image)) && fits_none (first_fit (commit_rows s (length (own s)) flush))
+-- A commit with this token has at least one record and passes its checks: the transaction is entered, even if power
+-- then fails.
+abbrev pub does_enter : State → ℕ → Bool → Bool
+does_enter s number flushed =
+    fits_none (first_fit (token_rows s number)) && not (none (declared s.image)) && fits_none (first_fit (commit_rows s (length (own s)) flushed))
 
--- The writes and barriers that a call makes while power holds.
-abbrev pub commit_plan : State → Option Token → Bool → List Act
-commit_plan s held flush = cond (does_enter s held flush && flush) (writing s (spooled s ++ own s)) []
+-- The plans of the calls that write.
+abbrev pub commit_plan : State → ℕ → Bool → List Act
+commit_plan s number flushed = cond (does_enter s number flushed && flushed) (writing s (spooled s ++ own s)) []
 
 abbrev pub flush_plan : State → List Act
 flush_plan s = cond (s.on && nat_le 1 (array_vec_len s.spool)) (writing s (spooled s)) []
 
--- A truncation that passes its tests writes, if some page is dirty. Before that it reads the live log, which writes
--- nothing.
+-- A truncation that passes its tests writes, if some page is dirty.
 abbrev pub does_truncate : State → (ℕ → Shown) → Bool
 does_truncate s shows = fits_none (first_fit (truncate_rows s (length (due_pages s shows)))) && nat_le 1 (length (dirty_pages s shows))
 
 abbrev pub truncate_plan : State → (ℕ → Shown) → List Act
 truncate_plan s shows = cond (does_truncate s shows) (truncation s shows) []
 
-abbrev pub deed_plan : Deed → State → Option Token → List Act
-deed_plan Begin s held = []
-deed_plan (SetRange _ _) s held = []
-deed_plan (Write _ _) s held = []
-deed_plan (Commit flush) s held = commit_plan s held flush
-deed_plan Abort s held = []
+-- Power failed while a truncation read the live log, and nothing had been written.
+abbrev pub CutBefore : Held → List Act → Option Act → Held → Type 0
+CutBefore h done cut k = (done ≡ []) × (cut ≡ Some looked) × ((o : ℕ) × CutReading h.state h.disk o k.disk)
 
--- Power cut a call of the plan, once these were made.
-pub record CutAt (d : Disk) (plan made : List Act) (o : ℕ) (e : Disk) : Type 0 where
-  pub act : Act
-  pub rest : List Act
-  pub all : made ++ (act ∷ rest) ≡ plan
-  pub reached : Disk
-  pub done : Done d made reached
-  pub cut : Cut act reached o e
-
--- All the calls of the plan were made, or those before the one that power cut.
-abbrev pub Traced : List Act → Disk → List Act → Disk → Type 0
-Traced plan d made e = ((made ≡ plan) × Done d plan e) ⊎ ((o : ℕ) × CutAt d plan made o e)
-
--- Power failed while a truncation read the live log, and nothing was made.
-abbrev pub CutBefore : State → Disk → List Act → Disk → Type 0
-CutBefore s d made e = (made ≡ []) × ((o : ℕ) × CutReading s d o e)
-
--- The tokens stay where they are.
-abbrev pub SameTokens : Moment → Moment → Type 0
-SameTokens m m' = (m'.first ≡ m.first) × (m'.second ≡ m.second)
-
--- The event took place: its call answered so, by the exact relation of that call.
-abbrev pub TakesPlace : Call → Answer → Moment → Moment → List Act → Type 0
-TakesPlace (With slot deed) a m m' made =
-    (held : Option Token) × Acts deed m.state m.disk (held_in slot m) a m'.state m'.disk held × HoldsThen slot m held m'
-    × Traced (deed_plan deed m.state (held_in slot m)) m.disk made m'.disk
-TakesPlace (Read start size) a m m' made = Reading m.state start size a × (m' ≡ m) × (made ≡ [])
-TakesPlace Flush a m m' made =
-    Flushing m.state m.disk a m'.state m'.disk × SameTokens m m' × Traced (flush_plan m.state) m.disk made m'.disk
-TakesPlace Truncate a m m' made =
-    Truncating m.state m.disk a m'.state m'.disk × SameTokens m m'
-    × (Traced (truncate_plan m.state m.disk.shows) m.disk made m'.disk ⊎ CutBefore m.state m.disk made m'.disk)
-TakesPlace Reopen a m m' made = Opening m.disk a m'.disk m'.state × SameTokens m m' × (made ≡ [])
-
-abbrev pub Happens : Event → Type 0
-Happens e = TakesPlace e.call e.answer e.before e.after e.made
+-- The call answered so and led from one moment to the other, with these calls on the device.
+abbrev pub Happens : Call → Moment → List Act → Option Act → Moment → Type 0
+Happens (format r) (closed d) done cut (working k) = Formatted d r k × FormatTried d done cut r k.disk
+Happens (opening r) (closed d) done cut (working k) = Opened d r k × OpeningTried d done cut r k
+Happens close (working h) done cut (closed e) = (e ≡ h.disk) × Silent done cut
+Happens (begin r) (working h) done cut (working k) = Begins h r k × Silent done cut
+Happens (set_range number start size r) (working h) done cut (working k) = SetsRange number start size h r k × Silent done cut
+Happens (write number start bytes r) (working h) done cut (working k) = WritesRange number start bytes h r k × Silent done cut
+Happens (read start buffer r filled) (working h) done cut (working k) =
+    ReadsRange start h buffer r filled × (k ≡ h) × Silent done cut
+Happens (commit number flushed r) (working h) done cut (working k) =
+    Commits number flushed h r k × Tried (commit_plan h.state number flushed) h.disk done cut r k.disk
+Happens (abort number r) (working h) done cut (working k) = Aborts number h r k × Silent done cut
+Happens (flush r) (working h) done cut (working k) = Flushes h r k × Tried (flush_plan h.state) h.disk done cut r k.disk
+Happens (truncate r) (working h) done cut (working k) =
+    Truncates h r k × (Tried (truncate_plan h.state h.disk.shows) h.disk done cut r k.disk ⊎ CutBefore h done cut k)
+Happens _ _ _ _ _ = ⊥
 
 -- The events follow one another, from one moment to another.
 abbrev pub Chain : Moment → List Event → Moment → Type 0
 Chain m [] m' = m' ≡ m
-Chain m (e ∷ es) m' = (e.before ≡ m) × Happens e × Chain e.after es m'
-
-abbrev pub calls_of : List Event → List Call
-calls_of [] = []
-calls_of (e ∷ es) = e.call ∷ calls_of es
-
-abbrev pub answers_of : List Event → List Answer
-answers_of [] = []
-answers_of (e ∷ es) = e.answer ∷ answers_of es
+Chain m (e ∷ es) m' = (e.before ≡ m) × Happens e.call e.before e.done e.cut e.after × Chain e.after es m'

@@ -1,111 +1,94 @@
--- The law: what is entered and kept, computed from the events of a run, and what holds of each event.
-use Rattle.std.specs.Prelude.{◌≡◌, ℕ, ◌<◌, ◌≤◌, Bool, true, false, cond, List, [], ◌∷◌, ◌++◌, length, take, Ok, Err, Option, slice_index}
-use Rattle.device.specs.Trace.{Act, looked, wrote, settled, restarted}
+-- The crash-safety law of stores: what is entered, computed from the events of a run, and what holds of each event.
+use Rattle.std.specs.Prelude.{◌≡◌, ℕ, ◌-◌, ◌<◌, ◌≤◌, Bool, true, false, cond, List, [], ◌∷◌, ◌++◌, map, length, take, drop, Some, None, Ok, Err, Option, Result, slice_index}
+use Rattle.device.specs.Trace.{Act}
 use Rattle.image.specs.Calls.{declared}
 use Rattle.transactions.specs.declared.fault.StoreFault.{StoreFault}
 use Rattle.transactions.specs.declared.state.State.{State}
-use Rattle.transactions.specs.declared.token.Token.{Token}
 use Rattle.transactions.specs.Fault.{number}
-use Rattle.law.specs.declared.script.Deed.{Deed}
-use Rattle.law.specs.declared.script.Deed.TheVariants.{Begin, SetRange, Write, Commit, Abort}
-use Rattle.law.specs.declared.script.Call.{Call}
-use Rattle.law.specs.declared.script.Call.TheVariants.{With, Read, Flush, Truncate, Reopen}
-use Rattle.law.specs.declared.script.Told.TheVariants.{Idle, Done, Begun, Bytes, Committed, Flushed, Truncated, Opened}
 use Rattle.law.specs.Transactions.{Transaction, made_of}
-use Rattle.law.specs.History.{History}
-use Rattle.law.specs.Events.{Answer, Event, held_in, does_enter}
+use Rattle.law.specs.Kept.{Entered, AllKept, NoneKept}
+use Rattle.law.specs.Events.{Moment, working, closed, disk_at, Call, format, opening, close, begin, set_range, write, read, commit, abort, flush, truncate, Event, does_enter, Chain}
 
--- At first nothing is entered.
-abbrev pub nothing_entered : History
-nothing_entered = record { entered = []; kept = 0 }
+-- What is entered, in the order of the commits. Nothing is known of a device until a format of it succeeds.
+abbrev pub History : Type 0
+History = Option (List Entered)
+
+abbrev pub transactions : List Entered → List Transaction
+transactions xs = map (λ (x : Entered). x.transaction) xs
 
 -- The transaction that a commit enters: its declared bytes, and the memory at the commit.
 abbrev pub own_transaction : State → Transaction
 own_transaction s = record { runs = declared s.image; memory = s.image.memory }
 
--- A barrier succeeded. Each call that makes one writes before it all that is entered and not yet written.
-abbrev pub settles : List Act → Bool
-settles [] = false
-settles (looked ∷ acts) = settles acts
-settles (wrote _ _ ∷ acts) = settles acts
-settles (settled ∷ acts) = true
-settles (restarted ∷ acts) = settles acts
+-- These device calls came later. Those found at an opening are known from that.
+abbrev pub later : List Act → Entered → Entered
+later done x = record { transaction = x.transaction; since = x.since ++ done; found = x.found }
 
--- All of these are kept if a barrier succeeded, else as many as before.
-abbrev pub with_barrier : List Act → List Transaction → ℕ → History
-with_barrier made entered kept = record { entered = entered; kept = cond (settles made) (length entered) kept }
+abbrev pub found_again : Entered → Entered
+found_again x = record { transaction = x.transaction; since = []; found = true }
 
--- What is entered after a commit: the transaction too, if the commit passed its checks.
-abbrev pub entered_after : Bool → State → List Transaction → List Transaction
-entered_after true s entered = entered ++ (own_transaction s ∷ [])
-entered_after false s entered = entered
+-- What a call newly enters, while these device calls succeed.
+abbrev pub newly : Call → Moment → List Act → List Entered
+newly (commit number flushed r) (working h) done =
+    cond (does_enter h.state number flushed) (record { transaction = own_transaction h.state; since = done; found = false } ∷ []) []
+newly _ _ _ = []
 
--- Those found at an opening are the first entered; they alone are then entered and kept.
-abbrev pub after_opening : Answer → History → History
-after_opening (Ok Idle) h = h
-after_opening (Ok Done) h = h
-after_opening (Ok (Begun _)) h = h
-after_opening (Ok (Bytes _)) h = h
-after_opening (Ok (Committed _ _)) h = h
-after_opening (Ok (Flushed _)) h = h
-after_opening (Ok (Truncated _)) h = h
-after_opening (Ok (Opened found _)) h = record { entered = take found h.entered; kept = found }
-after_opening (Err _) h = h
+-- What is entered after an event. A format that succeeds begins anew, and one that fails leaves a device of which
+-- nothing is known. An opening that finds so many transactions leaves the first that many.
+abbrev pub entered_after : Call → Moment → List Act → List Entered → List Entered
+entered_after (opening (Ok x)) m done xs = map found_again (take x.0 xs)
+entered_after call m done xs = map (later done) xs ++ newly call m done
 
-abbrev pub after_deed : Deed → Event → Option Token → History → History
-after_deed Begin e held h = h
-after_deed (SetRange _ _) e held h = h
-after_deed (Write _ _) e held h = h
-after_deed (Commit flush) e held h =
-    with_barrier e.made (entered_after (does_enter e.before.state held flush) e.before.state h.entered) h.kept
-after_deed Abort e held h = h
+abbrev pub after_call : Call → Moment → List Act → History → History
+after_call (format (Ok _)) m done h = Some []
+after_call (format (Err _)) m done h = None
+after_call call m done None = None
+after_call call m done (Some xs) = Some (entered_after call m done xs)
 
--- What is entered and kept after an event.
-abbrev pub after_call : Call → Event → History → History
-after_call (With slot deed) e h = after_deed deed e (held_in slot e.before) h
-after_call (Read _ _) e h = h
-after_call Flush e h = with_barrier e.made h.entered h.kept
-after_call Truncate e h = with_barrier e.made h.entered h.kept
-after_call Reopen e h = after_opening e.answer h
+abbrev pub after : Event → History → History
+after e h = after_call e.call e.before e.done h
 
-abbrev pub after_event : Event → History → History
-after_event e h = after_call e.call e h
-
-abbrev pub history : History → List Event → History
-history h [] = h
-history h (e ∷ es) = history (after_event e h) es
-
--- An opening finds at least what is kept and at most what is entered, and its memory is exactly the first that
--- many, applied to zeros in the order of their commits. It fails only where power does.
-pub record OpensLawfully (a : Answer) (memory : List ℕ) (h : History) : Type 0 where
-  pub kept : (found strays : ℕ) → a ≡ Ok (Opened found strays) → h.kept ≤ found
-  pub entered : (found strays : ℕ) → a ≡ Ok (Opened found strays) → found ≤ length h.entered
-  pub memory_is : (found strays : ℕ) → a ≡ Ok (Opened found strays) → (i : ℕ) → i < 6144 → slice_index memory i ≡ made_of (take found h.entered) i
-  pub only_power : (f : StoreFault) → a ≡ Err f → number f ≡ 1
+-- The log of the device has so many sectors.
+abbrev pub places_at : Moment → ℕ
+places_at m = (disk_at m).plate.sectors - 64
 
 -- All that is entered is kept.
-abbrev pub AllKept : History → Type 0
-AllKept h = h.kept ≡ length h.entered
+abbrev pub AllAreKept : Moment → History → Type 0
+AllAreKept m None = Unit {0}
+AllAreKept m (Some xs) = AllKept (places_at m) 0 xs
 
--- The law on one event, where h was entered and kept before it.
-abbrev pub LawfulDeed : Deed → Event → History → Type 0
-LawfulDeed Begin e h = Unit {0}
-LawfulDeed (SetRange _ _) e h = Unit {0}
-LawfulDeed (Write _ _) e h = Unit {0}
-LawfulDeed (Commit flush) e h = (o k : ℕ) → e.answer ≡ Ok (Committed o k) → flush ≡ true → 1 ≤ k → AllKept (after_event e h)
-LawfulDeed Abort e h = Unit {0}
+-- An opening that answers finds every transaction that is kept, and none that was not entered. Its memory is just what
+-- the first that many make of zeros.
+pub record Finds (m : Moment) (found : ℕ) (memory : List ℕ) (xs : List Entered) : Type 0 where
+  pub kept : NoneKept (places_at m) found (drop found xs)
+  pub entered : found ≤ length xs
+  pub whole : length memory ≡ 6144
+  pub memory_is : (i : ℕ) → i < 6144 → slice_index memory i ≡ made_of (transactions (take found xs)) i
 
-abbrev pub LawfulCall : Call → Event → History → Type 0
-LawfulCall (With slot deed) e h = LawfulDeed deed e h
-LawfulCall (Read _ _) e h = Unit {0}
-LawfulCall Flush e h = (k : ℕ) → e.answer ≡ Ok (Flushed k) → AllKept (after_event e h)
-LawfulCall Truncate e h = (k : ℕ) → e.answer ≡ Ok (Truncated k) → AllKept (after_event e h)
-LawfulCall Reopen e h = OpensLawfully e.answer e.after.state.image.memory h
+-- The law on an opening: it finds what it should, or it is refused, and that for failing power alone.
+abbrev pub OpensLawfully : Moment → Result (ℕ × ℕ) StoreFault → Moment → List Entered → Type 0
+OpensLawfully m (Ok x) (working k) xs = Finds m x.0 k.state.image.memory xs
+OpensLawfully m (Ok x) (closed e) xs = ⊥
+OpensLawfully m (Err f) m' xs = number f ≡ 1
+
+-- The law on a call, where xs are entered before it.
+abbrev pub LawfulCall : Call → Event → List Entered → Type 0
+LawfulCall (opening r) e xs = OpensLawfully e.before r e.after xs
+LawfulCall (commit number flushed r) e xs =
+    (ordinal k : ℕ) → r ≡ Ok (ordinal, k) → flushed ≡ true → 1 ≤ k → AllAreKept e.before (after e (Some xs))
+LawfulCall (flush r) e xs = (k : ℕ) → r ≡ Ok k → AllAreKept e.before (after e (Some xs))
+LawfulCall (truncate r) e xs = (k : ℕ) → r ≡ Ok k → AllAreKept e.before (after e (Some xs))
+LawfulCall _ e xs = Unit {0}
 
 abbrev pub Lawful : Event → History → Type 0
-Lawful e h = LawfulCall e.call e h
+Lawful e None = Unit {0}
+Lawful e (Some xs) = LawfulCall e.call e xs
 
--- The law over a run.
+-- The law on the events of a run.
 abbrev pub AllLawful : List Event → History → Type 0
 AllLawful [] h = Unit {0}
-AllLawful (e ∷ es) h = Lawful e h × AllLawful es (after_event e h)
+AllLawful (e ∷ es) h = Lawful e h × AllLawful es (after e h)
+
+-- The crash-safety law of stores: it holds of every run.
+abbrev pub CrashSafe : Type 0
+CrashSafe = (m : Moment) (es : List Event) (m' : Moment) → Chain m es m' → AllLawful es None

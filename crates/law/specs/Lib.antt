@@ -1,6 +1,6 @@
--- The law over every run of a store.
+-- The crash-safety law of stores.
 pub mod Transactions
-pub mod History
+pub mod Kept
 pub mod Events
 pub mod Law
 pub mod Run

@@ -1,85 +1,139 @@
-// The calls of a script, one at a time.
-ghost use Rattle.law.specs.Events.{Acts, Reading, Flushing, Truncating, Opening};
-ghost use Rattle.std.specs.Prelude.{◌≡◌, None};
+// The calls of a script on a store that works, one at a time.
+ghost use Rattle.law.specs.Run.{Places, StepsOn};
+ghost use Rattle.std.specs.Prelude.{List, ℕ, ◌≢◌};
+ghost use Rattle.transactions.specs.Held.{held};
 
-use crate::script::{Answer, Deed, Told};
+use crate::script::{Answer, Call};
+use crate::tokens::{put, take};
 use device::Device;
 use transactions::{Store, Token};
 
-// Begins a transaction where no token is held here.
-fn begin<D: Device>(store: &mut Store<D>) -> (Option<Token>, Answer)
-    ensures { Acts Deed.Begin store.old.state (D.Device.disk store.old.device) None result.1 store.new.state (D.Device.disk store.new.device) result.0 }
+// Begins a transaction, where the place is there and empty.
+fn begin<D: Device>(store: &mut Store<D>, places: &mut [Option<Token>], place: usize) -> Answer
+    ensures { (buffer : List ℕ) → StepsOn (Call.Begin place) (held store.old) places.old buffer result (held store.new) places.new buffer }
 {
+    if place >= places.len() || places[place].is_some() {
+        return Answer::NotMade;
+    }
     match store.begin() {
         Ok(token) => {
             let number = token.number();
-            (Some(token), Ok(Told::Begun(number)))
+            put(store, &mut places[place], token);
+            Answer::Begun(Ok(number))
         }
-        Err(fault) => (None, Err(fault)),
+        Err(fault) => Answer::Begun(Err(fault)),
     }
 }
 
-// What a script does with a token, and the token that is then held in its place. A second one is not begun
-// there, and without one there is nothing else to do.
-pub(crate) fn act<D: Device>(
+fn set_range<D: Device>(
     store: &mut Store<D>,
-    held: Option<Token>,
-    deed: Deed,
-) -> (Option<Token>, Answer)
-    ensures { Acts deed.entry store.old.state (D.Device.disk store.old.device) held result.1 store.new.state (D.Device.disk store.new.device) result.0 }
+    places: &[Option<Token>],
+    place: usize,
+    start: usize,
+    size: usize,
+) -> Answer
+    ensures { (buffer : List ℕ) → StepsOn (Call.SetRange place start size) (held store.old) places.now buffer result (held store.new) places.now buffer }
 {
-    match (held, deed) {
-        (None, Deed::Begin) => begin(store),
-        (None, _) => (None, Ok(Told::Idle)),
-        (Some(token), Deed::Begin) => (Some(token), Ok(Told::Idle)),
-        (Some(token), Deed::SetRange(start, size)) => {
-            let answer = store.set_range(&token, start, size);
-            (Some(token), answer.map(|()| Told::Done))
-        }
-        (Some(token), Deed::Write(start, bytes)) => {
-            let answer = store.write(&token, start, bytes);
-            (Some(token), answer.map(|()| Told::Done))
-        }
-        (Some(token), Deed::Commit(flush)) => {
-            let answer = store.commit(token, flush);
-            (
-                None,
-                answer.map(|(ordinal, records)| Told::Committed(ordinal, records)),
-            )
-        }
-        (Some(token), Deed::Abort) => (None, store.abort(token).map(|()| Told::Done)),
+    if place >= places.len() {
+        return Answer::NotMade;
+    }
+    match &places[place] {
+        Some(token) => Answer::Declared(store.set_range(token, start, size)),
+        None => Answer::NotMade,
     }
 }
 
-// Reads so many bytes, 96 at most.
-pub(crate) fn read<D: Device>(store: &Store<D>, start: usize, size: usize) -> Answer
-    ensures { Reading store.now.state start size result }
+fn write<D: Device>(
+    store: &mut Store<D>,
+    places: &[Option<Token>],
+    place: usize,
+    start: usize,
+    bytes: &[u8],
+) -> Answer
+    ensures { (buffer : List ℕ) → StepsOn (Call.Write place start bytes.entry) (held store.old) places.now buffer result (held store.new) places.now buffer }
 {
-    let mut bytes = [0u8; 96];
-    let count = size.min(96);
-    store.read(start, &mut bytes[0..count])?;
-    Ok(Told::Bytes(bytes))
+    if place >= places.len() {
+        return Answer::NotMade;
+    }
+    match &places[place] {
+        Some(token) => Answer::Written(store.write(token, start, bytes)),
+        None => Answer::NotMade,
+    }
 }
 
-pub(crate) fn flush<D: Device>(store: &mut Store<D>) -> Answer
-    ensures { Flushing store.old.state (D.Device.disk store.old.device) result store.new.state (D.Device.disk store.new.device) }
+fn read<D: Device>(
+    store: &Store<D>,
+    buffer: &mut [u8],
+    start: usize,
+    first: usize,
+    end: usize,
+) -> Answer
+    ensures { (places : Places) → StepsOn (Call.Read start first end) (held store.now) places buffer.old result (held store.now) places buffer.new }
 {
-    store.flush().map(Told::Flushed)
+    if first > end || end > buffer.len() {
+        return Answer::NotMade;
+    }
+    Answer::Read(store.read(start, &mut buffer[first..end]))
 }
 
-pub(crate) fn truncate<D: Device>(store: &mut Store<D>) -> Answer
-    ensures { Truncating store.old.state (D.Device.disk store.old.device) result store.new.state (D.Device.disk store.new.device) }
+fn commit<D: Device>(
+    store: &mut Store<D>,
+    places: &mut [Option<Token>],
+    place: usize,
+    flush: bool,
+) -> Answer
+    ensures { (buffer : List ℕ) → StepsOn (Call.Commit place flush) (held store.old) places.old buffer result (held store.new) places.new buffer }
 {
-    store.truncate().map(Told::Truncated)
+    match take(places, place) {
+        Some(token) => Answer::Committed(store.commit(token, flush)),
+        None => Answer::NotMade,
+    }
 }
 
-// Closes the store, and opens it again on its device.
-pub(crate) fn reopen<D: Device>(store: Store<D>) -> (Store<D>, Answer)
-    ensures { Opening (D.Device.disk store.device) result.1 (D.Device.disk result.0.device) result.0.state }
+fn abort<D: Device>(store: &mut Store<D>, places: &mut [Option<Token>], place: usize) -> Answer
+    ensures { (buffer : List ℕ) → StepsOn (Call.Abort place) (held store.old) places.old buffer result (held store.new) places.new buffer }
 {
-    let (store, answer) = Store::open(store.close());
-    (
-        store,
-        answer.map(|(found, strays)| Told::Opened(found, strays)),
-    )
+    match take(places, place) {
+        Some(token) => Answer::Aborted(store.abort(token)),
+        None => Answer::NotMade,
+    }
+}
+
+fn flush<D: Device>(store: &mut Store<D>) -> Answer
+    ensures { (places : Places) (buffer : List ℕ) → StepsOn Call.Flush (held store.old) places buffer result (held store.new) places buffer }
+{
+    Answer::Flushed(store.flush())
+}
+
+fn truncate<D: Device>(store: &mut Store<D>) -> Answer
+    ensures { (places : Places) (buffer : List ℕ) → StepsOn Call.Truncate (held store.old) places buffer result (held store.new) places buffer }
+{
+    Answer::Truncated(store.truncate())
+}
+
+// Makes one call on a store that works, other than close: that one gives the store up.
+pub(crate) fn deed<D: Device>(
+    store: &mut Store<D>,
+    call: Call,
+    places: &mut [Option<Token>],
+    buffer: &mut [u8],
+) -> Answer
+    requires { call ≢ Call.Close }
+    ensures { StepsOn call.entry (held store.old) places.old buffer.old result (held store.new) places.new buffer.new }
+{
+    match call {
+        Call::Format | Call::Open | Call::Close => Answer::NotMade,
+        Call::Begin { place } => begin(store, places, place),
+        Call::SetRange { place, start, size } => set_range(store, places, place, start, size),
+        Call::Write {
+            place,
+            start,
+            bytes,
+        } => write(store, places, place, start, bytes),
+        Call::Read { start, first, end } => read(store, buffer, start, first, end),
+        Call::Commit { place, flush } => commit(store, places, place, flush),
+        Call::Abort { place } => abort(store, places, place),
+        Call::Flush => flush(store),
+        Call::Truncate => truncate(store),
+    }
 }

@@ -1,10 +1,11 @@
-// The law over every run of a store: a script of any calls, and what holds of its openings.
+// The crash-safety law of stores, over every run, and a call that works a script.
 
 #![tactic(auto)]
 
 mod deeds;
 mod run;
 mod script;
+mod tokens;
 
 pub use run::work;
-pub use script::{Answer, Call, Deed, Slot, Told};
+pub use script::{Answer, Call};

@@ -1,59 +1,66 @@
-// Scripts: the calls that a run makes on a store, and what they answer.
+// Scripts: the calls that a run makes, and what they answer.
 use transactions::StoreFault;
 
-// Which of two tokens. A script may hold a stale one beside that of the open transaction.
-#[derive(Clone, Copy)]
-pub enum Slot {
-    First,
-    Second,
-}
-
-// What is done with a token.
-#[derive(Clone, Copy)]
-pub enum Deed<'a> {
-    // Begins a transaction, where this place holds no token yet.
-    Begin,
-    // Declares so many bytes from the first on.
-    SetRange(usize, usize),
-    // Writes these bytes from the first on.
-    Write(usize, &'a [u8]),
-    // Commits, with flush or without.
-    Commit(bool),
-    Abort,
-}
-
+// A call of a script. A token is named by its place among those that the script lends.
 #[derive(Clone, Copy)]
 pub enum Call<'a> {
-    // A call that gives, takes or is shown a token.
-    With(Slot, Deed<'a>),
-    // Reads so many bytes from the first on, 96 at most.
-    Read(usize, usize),
+    // These two need a device that lies alone, the others a store that works on one.
+    Format,
+    Open,
+    Close,
+    // Begins a transaction, and puts its token into this place.
+    Begin {
+        place: usize,
+    },
+    // Declares so many bytes from the first on.
+    SetRange {
+        place: usize,
+        start: usize,
+        size: usize,
+    },
+    // Writes these bytes from the first on.
+    Write {
+        place: usize,
+        start: usize,
+        bytes: &'a [u8],
+    },
+    // Reads from byte `start` of the memory on into the script's buffer, from its byte `first` up to `end`.
+    Read {
+        start: usize,
+        first: usize,
+        end: usize,
+    },
+    Commit {
+        place: usize,
+        flush: bool,
+    },
+    Abort {
+        place: usize,
+    },
     Flush,
     Truncate,
-    // Closes the store and opens it again on its device. Tokens that are held are stale from then on.
-    Reopen,
 }
 
-// What a call is told as where the store doesn't refuse it.
-#[derive(Clone, Copy, PartialEq, Eq, Debug)]
-pub enum Told {
-    // No call was made: no token is held in that place, or one is there already.
-    Idle,
-    Done,
+// What a call answers.
+#[derive(Clone, Copy)]
+pub enum Answer {
+    // It did not fit where the run stood, and was not made: no store works, or one does already; there is no such place,
+    // no token in it, or one already; or the buffer has no such part.
+    NotMade,
+    Formatted(Result<(), StoreFault>),
+    // How many transactions were found, and how many strays were cleared.
+    Opened(Result<(u64, usize), StoreFault>),
+    Closed,
     // The number of the token.
-    Begun(u64),
-    // The first of these are the bytes that were read, as many as the call asked for. A whole array, since answers
-    // are copied.
-    Bytes([u8; 96]),
+    Begun(Result<u64, StoreFault>),
+    Declared(Result<(), StoreFault>),
+    Written(Result<(), StoreFault>),
+    Read(Result<(), StoreFault>),
     // The ordinal, and how many records.
-    Committed(u64, usize),
+    Committed(Result<(u64, usize), StoreFault>),
+    Aborted(Result<(), StoreFault>),
     // How many records.
-    Flushed(usize),
+    Flushed(Result<usize, StoreFault>),
     // How many pages were dirty.
-    Truncated(usize),
-    // The number found, and how many strays.
-    Opened(u64, usize),
+    Truncated(Result<usize, StoreFault>),
 }
-
-// What a call of a script answers.
-pub type Answer = Result<Told, StoreFault>;

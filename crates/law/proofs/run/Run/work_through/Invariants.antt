@@ -1,8 +1,0 @@
--- The events so far.
-use Rattle.law.specs.Run.{moment_of}
-use Rattle.law.proofs.Working.{SoFar}
-use Rattle.law.proofs.run.Run.work_through.Given as goal
-
-abbrev pub invariant-loop-i : goal.invariant-loop-i
-invariant-loop-i g l =
-    SoFar (moment_of l.initial.run) l.calls l.initial.answers l.i l.answers (moment_of l.run)
