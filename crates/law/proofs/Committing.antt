@@ -27,7 +27,7 @@ use Rattle.transactions.specs.Rows.{Row, first_fit, serials, full, spool_full, c
 use Rattle.transactions.specs.State.{live, spooled, own}
 use Rattle.transactions.specs.Calls.{writing, Written, SpooledUp, CommitsParts, CommitCut}
 use Rattle.law.specs.Transactions.{Transaction, made_of, batch, Proper, AllProper}
-use Rattle.law.specs.History.{History, Resting, Safe}
+use Rattle.law.proofs.History.{History, Resting, Safe}
 use Rattle.law.specs.Law.{own_transaction}
 use Rattle.law.proofs.Batches.{batch_append, batch_one, applied_append, proper_append, long_batch, proper_drop}
 use Rattle.law.proofs.Writing.{kept_of, followed, BeforeBatch, writing_batch, batch_written, batch_says, batch_cut}
@@ -243,7 +243,7 @@ module _ (lay : PiecesLay) (fit : PiecesFit) (none : PiecesNone) (n : ℕ) (d : 
   entered_proper some = proper_append h.entered (own_transaction s ∷ []) r.proper (own_proper s some, tt)
 
   -- what waits, and then its own records
-  more_is : spooled s ++ own s ≡ batch h.kept more
+  pub more_is : spooled s ++ own s ≡ batch h.kept more
   more_is =
       let e : s.log.ordinal ≡ h.kept + length rest = omega (arith, r.number, r.few, length-drop h.kept h.entered) in
       ap (λ (xs : List Item). xs ++ own s) r.waits

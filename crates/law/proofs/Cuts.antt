@@ -1,5 +1,5 @@
 -- Plans that end in a barrier: all of them made, or cut by power, and never both.
-use Rattle.std.proofs.Common.{◌≡◌, ℕ, ◌+◌, true, false, ◌⊎◌, List, [], ◌∷◌, ◌++◌, length, refl, ap, ◌∙◌, subst, inl, inr, ⊎_elim, arith}
+use Rattle.std.proofs.Common.{◌≡◌, ℕ, ◌+◌, true, false, ◌⊎◌, List, [], ◌∷◌, ◌++◌, length, Some, None, Ok, Err, Option, Result, sym, refl, ap, ◌∙◌, subst, inl, inr, ⊎_elim, arith}
 use Rattle.std.proofs.lemmas.List.{length-append}
 use Rattle.std.proofs.lemmas.Bool.{both_ways}
 use Rattle.device.specs.Disk.{Disk}
@@ -7,8 +7,35 @@ use Rattle.device.specs.Meaning.{Failed}
 use Rattle.device.specs.Trace.{Act, looked, wrote, settled, restarted, Does, Cut, Done, CutShort}
 use Rattle.device.proofs.Plans.{cut_after}
 use Rattle.durability.specs.Items.{Item, appending}
-use Rattle.law.specs.Events.{CutAt, Traced}
-use Rattle.law.specs.Law.{settles}
+use Rattle.transactions.specs.declared.fault.StoreFault.{StoreFault}
+use Rattle.law.specs.Events.{Tried}
+use Rattle.law.proofs.History.{settles}
+
+-- Power cut a call of the plan, once these were made.
+pub record CutAt (d : Disk) (plan made : List Act) (o : ℕ) (e : Disk) : Type 0 where
+  pub act : Act
+  pub rest : List Act
+  pub all : made ++ (act ∷ rest) ≡ plan
+  pub reached : Disk
+  pub done : Done d made reached
+  pub cut : Cut act reached o e
+
+-- All the calls of the plan were made, or those before the one that power cut.
+abbrev pub Traced : List Act → Disk → List Act → Disk → Type 0
+Traced plan d made e = ((made ≡ plan) × Done d plan e) ⊎ ((o : ℕ) × CutAt d plan made o e)
+
+-- so it is with what an event says that was tried
+pub traced : {A : Type 0} (plan : List Act) (d : Disk) (done : List Act) (cut : Option Act) (r : Result A StoreFault) (e : Disk) → Tried plan d done cut r e → Traced plan d done e
+traced plan d done None (Ok _) e (same, all) = inl (same, all)
+traced plan d done (Some act) (Ok _) e t = absurd t
+traced plan d done None (Err _) e (plan_is, same, device) =
+    inl (same ∙ sym plan_is, subst (λ (p : List Act). Done d p e) (sym plan_is) device)
+traced plan d done (Some act) (Err _) e (o, _, c) =
+    inr (o, record { act = act; rest = c.rest; all = c.all; reached = c.reached; done = c.did; cut = c.cut })
+
+-- Plans that were made, or cut, were tried.
+pub tried_done : {A : Type 0} (plan : List Act) (d e : Disk) (x : A) → Done d plan e → Tried plan d plan None (Ok x) e
+tried_done plan d e x all = (refl, all)
 
 -- power that fails leaves the device off
 

@@ -1,8 +1,9 @@
--- What has been entered and what is kept, and how that stands with a store and its device.
-use Rattle.std.specs.Prelude.{◌≡◌, ℕ, ◌+◌, ◌<◌, ◌≤◌, true, false, ◌⊎◌, List, [], length, take, drop, slice_index}
+-- How a store and its device stand with what has been entered, where so many of the first are counted as kept.
+use Rattle.std.specs.Prelude.{◌≡◌, ℕ, ◌+◌, ◌<◌, ◌≤◌, Bool, true, false, cond, ◌⊎◌, List, [], ◌∷◌, ◌++◌, length, take, drop, slice_index}
 use Rattle.arrayvec.specs.ArrayVec.{array_vec_len}
 use Rattle.device.specs.Disk.{Disk, Shown}
 use Rattle.device.specs.Meaning.{Quiet}
+use Rattle.device.specs.Trace.{Act, looked, wrote, settled, restarted}
 use Rattle.durability.specs.Standing.{Firm, OpensTo, Choice}
 use Rattle.image.specs.Calls.{declared}
 use Rattle.recovery.specs.Opening.{Divides}
@@ -14,6 +15,25 @@ use Rattle.law.specs.Transactions.{Transaction, made_of, batch, AllProper}
 pub record History : Type 0 where
   pub entered : List Transaction
   pub kept : ℕ
+
+abbrev pub nothing_entered : History
+nothing_entered = record { entered = []; kept = 0 }
+
+-- A barrier succeeded. Each call that makes one writes before it all that is entered and not yet written.
+abbrev pub settles : List Act → Bool
+settles [] = false
+settles (looked ∷ acts) = settles acts
+settles (wrote _ _ ∷ acts) = settles acts
+settles (settled ∷ acts) = true
+settles (restarted ∷ acts) = settles acts
+
+-- All of these count if a barrier succeeded, else as many as before.
+abbrev pub with_barrier : List Act → List Transaction → ℕ → History
+with_barrier made entered kept = record { entered = entered; kept = cond (settles made) (length entered) kept }
+
+-- All that is entered counts.
+abbrev pub AllCounted : History → Type 0
+AllCounted h = h.kept ≡ length h.entered
 
 -- The store is on: the kept transactions are in the log and settled, the others wait in the spool, and the
 -- memory as at begin is what all of them make of zeros.

@@ -1,10 +1,10 @@
 -- Lemmas on what every run of a store keeps.
+pub mod History
 pub mod Openings
 pub mod Batches
 pub mod Writing
 pub mod Committing
 pub mod Cuts
-pub mod Runs
 pub mod Pages
 pub mod Says
 pub mod Covering
@@ -12,6 +12,6 @@ pub mod Truncating
 pub mod Standing
 pub mod Truncated
 pub mod Steps
-pub mod Reading
-pub mod Tracing
-pub mod Working
+pub mod Settling
+pub mod Counting
+pub mod Lawful

@@ -29,8 +29,7 @@ use Rattle.transactions.specs.Parts.{Spool, item_of, waiting}
 use Rattle.transactions.specs.Fault.{number, from_recovery}
 use Rattle.transactions.specs.State.{Formatted, Opened}
 use Rattle.law.specs.Transactions.{Transaction, made_of, batch, AllProper}
-use Rattle.law.specs.History.{History, Resting, Recoverable, Safe}
-use Rattle.law.specs.Law.{nothing_entered}
+use Rattle.law.proofs.History.{History, Resting, Recoverable, Safe, nothing_entered}
 
 -- the same plate has the same log
 divides_kept : (d e : Disk) (n : ℕ) → e.plate ≡ d.plate → Divides d.plate.sectors n → Divides e.plate.sectors n

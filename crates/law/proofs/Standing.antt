@@ -13,20 +13,10 @@ use Rattle.transactions.specs.declared.state.State.{State}
 use Rattle.transactions.specs.Parts.{Spool, waiting}
 use Rattle.transactions.specs.Rows.{Row, first_fit, off, busy, stranger, token_rows}
 use Rattle.transactions.specs.State.{Formatted, MadeOf}
-use Rattle.law.specs.declared.script.Call.{Call}
 use Rattle.law.specs.Transactions.{made_of}
-use Rattle.law.specs.History.{History, Resting, Safe, Sound}
-use Rattle.law.specs.Events.{Answer, Moment, Event}
-use Rattle.law.specs.Law.{nothing_entered}
+use Rattle.law.proofs.History.{History, Resting, Safe, Sound, nothing_entered}
 use Rattle.law.proofs.Openings.{rest_safe, new_rests}
 use Rattle.law.proofs.Committing.{no_fit}
-
-abbrev pub Standing : ℕ → Moment → History → Type 0
-Standing n m h = Sound n m.state m.disk h
-
--- The event that these make.
-abbrev pub event : Call → Answer → Moment → Moment → List Act → Event
-event call a m m' made = record { call = call; answer = a; before = m; after = m'; made = made }
 
 -- from how it stands
 
@@ -96,5 +86,5 @@ asleep s f e = go s.on e
 
 -- a new store
 
-pub begins : (d e : Disk) (s : State) (u : Unit {0}) (f : Formatted d (Ok u) e s) → Standing f.0 (record { state = s; disk = e; first = None; second = None }) nothing_entered
+pub begins : (d e : Disk) (s : State) (u : Unit {0}) (f : Formatted d (Ok u) e s) → Sound f.0 s e nothing_entered
 begins d e s u f = on_stands f.0 s e nothing_entered (new_rests d e s u f) (λ _. f.2.idle.clean)

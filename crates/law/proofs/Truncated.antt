@@ -25,15 +25,13 @@ use Rattle.transactions.specs.declared.state.State.{State}
 use Rattle.transactions.specs.Calls.{writing}
 use Rattle.transactions.specs.Rows.{first_fit, busy, serials}
 use Rattle.transactions.specs.State.{spooled}
-use Rattle.transactions.specs.Truncation.{dirty_pages, due_pages, crowded, truncate_rows, flushing, covering, going_home, truncation, Truncated, Truncates}
-use Rattle.law.specs.declared.script.Told.TheVariants as told
+use Rattle.transactions.specs.Truncation.{CutReading, dirty_pages, due_pages, crowded, covered_to, truncate_rows, flushing, covering, going_home, truncation, Truncated, Truncates}
 use Rattle.law.specs.Transactions.{Transaction, made_of, batch}
-use Rattle.law.specs.History.{History, Resting, Safe, Sound}
-use Rattle.law.specs.Events.{Answer, CutAt, Traced, CutBefore, fits_none, does_truncate, truncate_plan, told_truncate}
-use Rattle.law.specs.Law.{settles, with_barrier, AllKept}
+use Rattle.law.specs.Events.{fits_none, does_truncate, truncate_plan}
+use Rattle.law.proofs.History.{History, Resting, Safe, Sound, settles, with_barrier, AllCounted}
 use Rattle.law.proofs.Openings.{short_plate, safe_failed}
 use Rattle.law.proofs.Committing.{all_kept, none_spooled, empty_kept, flush_cut}
-use Rattle.law.proofs.Cuts.{failed_off, cut_off, short_at, CutLater, cut_parts, none_made, done_on, settles_all, settles_left, cut_settles}
+use Rattle.law.proofs.Cuts.{CutAt, Traced, failed_off, cut_off, short_at, CutLater, cut_parts, none_made, done_on, settles_all, settles_left, cut_settles}
 use Rattle.law.proofs.Standing.{rests, safe, same_stands, on_stands, off_stands, awake}
 use Rattle.law.proofs.Covering.{end_of}
 use Rattle.law.proofs.Truncating.{Clear, clear, Flushed, flushed, covered, cover_cut, at_home, home_short, recovers, memory_is, firm_as}
@@ -210,17 +208,33 @@ none_of : (o : Option StoreFault) → fits_none o ≡ true → o ≡ None
 none_of None e = refl
 none_of (Some f) e = absurd (both_ways false refl e)
 
+-- one that writes is made by a store that is on
+pub does_on : (s : State) (d : Disk) → does_truncate s d.shows ≡ true → s.on ≡ true
+does_on s d does =
+    let passes = none_of (fit s d) (and_parts (fits_none (fit s d)) (leb 1 (pages s d)) does).0 in
+    awake s (busy s ∷ serials s 0 ∷ crowded s (length (due_pages s d.shows)) ∷ []) passes
+
+-- what a truncation does once what waits is written
+abbrev pub after_flush : State → Disk → List Act
+after_flush s d =
+    covering s (due_pages s d.shows)
+    ++ (going_home s (dirty_pages s d.shows) ++ marking s.log.places (covered_to s (length (due_pages s d.shows))) s.log.ordinal)
+
 none_moved : (d e : Disk) (made : List Act) → Traced [] d made e → e ≡ d
 none_moved d e made (inl (_, same)) = same
 none_moved d e made (inr (o, c)) = absurd (omega (arith, length-append made (c.act ∷ c.rest), ap length c.all))
+
+-- Power failed while the live log was read, and nothing was made.
+abbrev pub CutBefore : State → Disk → List Act → Disk → Type 0
+CutBefore s d made e = (made ≡ []) × ((o : ℕ) × CutReading s d o e)
 
 module _ (n : ℕ) (s s' : State) (d e : Disk) (h : History) (w : Sound n s d h) (made : List Act) where
   abbrev After : History
   After = with_barrier made h.entered h.kept
 
   -- The law of a truncation, and what it keeps.
-  abbrev pub TruncateKeeps : Answer → Type 0
-  TruncateKeeps a = ((k : ℕ) → a ≡ Ok (told.Truncated k) → AllKept After) × Sound n s' e After
+  abbrev pub TruncateKeeps : Result ℕ StoreFault → Type 0
+  TruncateKeeps r = ((k : ℕ) → r ≡ Ok k → AllCounted After) × Sound n s' e After
 
   abbrev pub Made : Type 0
   Made = Traced (truncate_plan s d.shows) d made e ⊎ CutBefore s d made e
@@ -280,11 +294,11 @@ module _ (n : ℕ) (s s' : State) (d e : Disk) (h : History) (w : Sound n s d h)
       (subst (λ (v : Disk). Safe n v h) (sym (none_moved d e made t)) (safe n s d h w)))
       (cases_Bool (does_truncate s d.shows))
 
-  pub truncate_answers : (r : Result ℕ StoreFault) → Made → Truncates s d r s' e → TruncateKeeps (told_truncate r)
+  pub truncate_answers : (r : Result ℕ StoreFault) → Made → Truncates s d r s' e → TruncateKeeps r
   truncate_answers (Ok k) traced (passes, inl c) =
       let on = awake s (busy s ∷ serials s 0 ∷ crowded s (length (due_pages s d.shows)) ∷ []) passes in
       let is = after_none (nothing_made (idle_clean s d c.clean) traced) in (
-        λ j same. subst AllKept (sym is) (empty_kept runs_lay runs_fit runs_none n d s h (rests n s d h w on) c.empty),
+        λ j same. subst AllCounted (sym is) (empty_kept runs_lay runs_fit runs_none n d s h (rests n s d h w on) c.empty),
         subst (λ (g : History). Sound n s' e g) (sym is) (same_stands n s s' d e h w c.state c.device),
       )
   truncate_answers (Ok k) traced (passes, inr c) =
@@ -292,7 +306,7 @@ module _ (n : ℕ) (s s' : State) (d e : Disk) (h : History) (w : Sound n s d h)
       let is = done_made free c.done (⊎_elim (λ t. inl (traced_if true (writes s d passes c.some) t)) (λ k. inr k) traced) in
       let left = truncate_done s d h (resting free.on) (w.free free.on free.free) free e s' c.done c.state in
       let rest = subst (λ (k : ℕ). Resting k e s' (all_kept h.entered)) (places free) left in (
-        λ j same. subst AllKept (sym is) refl,
+        λ j same. subst AllCounted (sym is) refl,
         subst (λ (g : History). Sound n s' e g) (sym is) (on_stands n s' e (all_kept h.entered) rest (λ _. ap declared c.state.image ∙ w.free free.on free.free)),
       )
   truncate_answers (Err f) traced (inl (fits, state, device)) =

@@ -15,7 +15,7 @@ use Rattle.durability.proofs.Appends.{appended, appended_says, append_cut}
 use Rattle.recovery.specs.Opening.{Divides}
 use Rattle.image.specs.Cut.{PiecesLay, PiecesFit, PiecesNone}
 use Rattle.law.specs.Transactions.{Transaction, made_of, batch, AllProper}
-use Rattle.law.specs.History.{History, Recoverable, Safe}
+use Rattle.law.proofs.History.{History, Recoverable, Safe}
 use Rattle.law.proofs.Openings.{short_plate}
 use Rattle.law.proofs.Batches.{put_batch, ordinal_batch, kind_batch, appendable_batch, split_batch, applied_append, proper_take, proper_right}
 
