@@ -15,3 +15,4 @@ pub mod Steps
 pub mod Settling
 pub mod Counting
 pub mod Lawful
+pub mod Tracing

@@ -134,20 +134,20 @@ passing s t flush a some c =
 
 -- where nothing is declared or a row fits, it is not
 
-token_fits : (s : State) (t : ℕ) (flush : Bool) (f : StoreFault) → first_fit (token_rows s t) ≡ Some f → does_enter s t flush ≡ false
+pub token_fits : (s : State) (t : ℕ) (flush : Bool) (f : StoreFault) → first_fit (token_rows s t) ≡ Some f → does_enter s t flush ≡ false
 token_fits s t flush f fits =
     let first = fits_none (first_fit (token_rows s t)) in
     let second = not (none (declared s.image)) in
     and_left (first && second) (fits_none (first_fit (commit_rows s (length (own s)) flush))) (and_left first second (ap fits_none fits))
 
-none_declared : (s : State) (t : ℕ) (flush : Bool) → declared s.image ≡ [] → does_enter s t flush ≡ false
+pub none_declared : (s : State) (t : ℕ) (flush : Bool) → declared s.image ≡ [] → does_enter s t flush ≡ false
 none_declared s t flush clean =
     let first = fits_none (first_fit (token_rows s t)) in
     let second = not (none (declared s.image)) in
     and_left (first && second) (fits_none (first_fit (commit_rows s (length (own s)) flush)))
     (and_right first second (ap (λ (rs : List Run). not (none rs)) clean))
 
-room_fits : (s : State) (t : ℕ) (flush : Bool) (f : StoreFault) → first_fit (commit_rows s (length (own s)) flush) ≡ Some f → does_enter s t flush ≡ false
+pub room_fits : (s : State) (t : ℕ) (flush : Bool) (f : StoreFault) → first_fit (commit_rows s (length (own s)) flush) ≡ Some f → does_enter s t flush ≡ false
 room_fits s t flush f fits =
     and_right (fits_none (first_fit (token_rows s t)) && not (none (declared s.image))) (fits_none (first_fit (commit_rows s (length (own s)) flush))) (ap fits_none fits)
 
