@@ -3,7 +3,6 @@ use Rattle.std.proofs.Common.{◌≡◌, ℕ, ◌+◌, ◌<◌, ◌≤◌, min, 
 use Rattle.std.proofs.lemmas.Bool.{eq-eqb}
 use Rattle.std.proofs.lemmas.List.{length-map, get_or-map, drop_more}
 use Rattle.journal.specs.Memory.{overlaid}
-use Rattle.device.specs.Disk.{Disk}
 use Rattle.image.specs.declared.run.Run.{Run}
 use Rattle.image.specs.declared.run.ImageFault.TheVariants.{Range, Runs as Too-many, Undeclared}
 use Rattle.image.specs.declared.state.Image.{Image}
@@ -14,14 +13,15 @@ use Rattle.transactions.specs.declared.fault.StoreFault.{StoreFault}
 use Rattle.transactions.specs.declared.log.Log.{Log}
 use Rattle.transactions.specs.declared.state.State.{State}
 use Rattle.transactions.specs.declared.token.Token.{Token}
-use Rattle.transactions.specs.Calls.{Begins, SetsRange, WritesRange, Commits}
+use Rattle.transactions.specs.Calls as calls
+use Rattle.transactions.specs.Held.{Held, Begins, SetsRange, WritesRange}
 use Rattle.transactions.specs.Rows.{first_fit, busy, token_rows}
 use Rattle.transactions.proofs.Plans.{on_past}
 use Rattle.transactions.specs.State.{MadeOf}
 use Rattle.book.specs.Edits.{Edit, edit, edited, declaring}
 use Rattle.plans.specs.declared.plan.Patch.{Patch}
 use Rattle.plans.specs.Plans.{edit_of}
-use Rattle.changes.specs.Changes.{Prepared, Changes}
+use Rattle.changes.specs.Changes.{Prepared, PutIn, Changes}
 use Rattle.changes.specs.Steps.{Underway, Put, Puts, Finishes, Performs}
 
 pub some_none : {A : Type 0} (o : Option A) (x : A) → o ≡ None → o ≡ Some x → ⊥
@@ -48,7 +48,7 @@ pub record Set (start size : ℕ) (s m : State) : Type 0 where
   pub made : MadeOf m m.image s.spool s.log s.busy s.on
 
 set_passes : (s m : State) (number start size : ℕ) (r : Result (Unit {0}) StoreFault) → Underway s number → length (declared s.image) + 1 < 17
-    → 1 ≤ size → start + size ≤ 6144 → SetsRange s number start size r m → (r ≡ Ok tt) × Set start size s m
+    → 1 ≤ size → start + size ≤ 6144 → calls.SetsRange s number start size r m → (r ≡ Ok tt) × Set start size s m
 set_passes s m number start size (Ok _) u few some inside (fits, more, made) = (refl, record { more = more; made = made })
 set_passes s m number start size (Err f) u few some inside (inl (fits, same)) = absurd (some_none (first_fit (token_rows s number)) f (token_fits s number u) fits)
 set_passes s m number start size (Err f) u few some inside (inr (Range at, fits, is, refused, made)) = absurd (out refused.out)
@@ -64,7 +64,7 @@ pub err_ok : (f : StoreFault) → ◌≡◌ {A = Result (Unit {0}) StoreFault} (
 err_ok f e = let z : ◌≡◌ {A = ℕ} 0 1 = cc in omega arith
 
 pub not_set : (s m : State) (number start : ℕ) (bytes : List ℕ) (f : StoreFault) → Underway s number → length (declared s.image) + 1 < 17
-    → 1 ≤ length bytes → start + length bytes ≤ 6144 → SetsRange s number start (length bytes) (Err f) m → ⊥
+    → 1 ≤ length bytes → start + length bytes ≤ 6144 → calls.SetsRange s number start (length bytes) (Err f) m → ⊥
 not_set s m number start bytes f u few some inside set = err_ok f (set_passes s m number start (length bytes) (Err f) u few some inside set).0
 
 -- The bytes are written, and nothing but the memory moved.
@@ -74,7 +74,7 @@ pub record Got (start : ℕ) (bytes : List ℕ) (m p : State) : Type 0 where
 
 write_passes : (m p : State) (number start : ℕ) (bytes : List ℕ) (r : Result (Unit {0}) StoreFault) → Underway m number
     → ((i : ℕ) → start ≤ i → i < start + length bytes → Declared (declared m.image) i)
-    → 1 ≤ length bytes → start + length bytes ≤ 6144 → WritesRange m number start bytes r p → (r ≡ Ok tt) × Got start bytes m p
+    → 1 ≤ length bytes → start + length bytes ≤ 6144 → calls.WritesRange m number start bytes r p → (r ≡ Ok tt) × Got start bytes m p
 write_passes m p number start bytes (Ok _) u all some inside (fits, written, made) = (refl, record { written = written; made = made })
 write_passes m p number start bytes (Err f) u all some inside (inl (fits, same)) = absurd (some_none (first_fit (token_rows m number)) f (token_fits m number u) fits)
 write_passes m p number start bytes (Err f) u all some inside (inr (Range at, fits, is, refused, made)) = absurd (out refused.out)
@@ -95,15 +95,20 @@ still_underway s m number u made =
       fits = u.fits ∙ sym (ap (λ (l : Log). l.ordinal + 1) made.log_is);
     }
 
-pub put_done : (s m p : State) (number start : ℕ) (bytes : List ℕ) (a : Unit {0}) (r : Result (Unit {0}) StoreFault) → Underway s number → length (declared s.image) + 1 < 17
-    → 1 ≤ length bytes → start + length bytes ≤ 6144 → SetsRange s number start (length bytes) (Ok a) m → WritesRange m number start bytes r p
-    → (r ≡ Ok tt) × Put s (edit start bytes ∷ []) p
-put_done s m p number start bytes a r u few some inside set write =
-    let x = (set_passes s m number start (length bytes) (Ok a) u few some inside set).1 in
-    let all : (i : ℕ) → start ≤ i → i < start + length bytes → Declared (declared m.image) i =
-    λ i low high. subst (λ (rs : List Run). Declared rs i) (sym x.more.runs) (joined_covers start (start + length bytes) (declared s.image) i (inl (low, high))) in
-    let y = write_passes m p number start bytes r (still_underway s m number u x.made) all some inside write in
-    (y.0, both s m p start bytes x y.1)
+-- A patch that is put in: what it makes, and by which calls.
+abbrev pub Made : ℕ → List Edit → Held → Held → Type 0
+Made number xs h k = Put h.state xs k.state × PutIn number xs h k
+
+pub put_done : (h m p : Held) (number start : ℕ) (bytes : List ℕ) (a : Unit {0}) (r : Result (Unit {0}) StoreFault) → Underway h.state number → length (declared h.state.image) + 1 < 17
+    → 1 ≤ length bytes → start + length bytes ≤ 6144 → SetsRange number start (length bytes) h (Ok a) m → WritesRange number start bytes m r p
+    → (r ≡ Ok tt) × Put h.state (edit start bytes ∷ []) p.state × PutIn number (edit start bytes ∷ []) h p
+put_done h m p number start bytes a r u few some inside set write =
+    let x = (set_passes h.state m.state number start (length bytes) (Ok a) u few some inside set.0).1 in
+    let all : (i : ℕ) → start ≤ i → i < start + length bytes → Declared (declared m.state.image) i =
+    λ i low high. subst (λ (rs : List Run). Declared rs i) (sym x.more.runs) (joined_covers start (start + length bytes) (declared h.state.image) i (inl (low, high))) in
+    let y = write_passes m.state p.state number start bytes r (still_underway h.state m.state number u x.made) all some inside write.0 in
+    let wrote = subst (λ (z : Result (Unit {0}) StoreFault). WritesRange number start bytes m z p) y.0 write in
+    (y.0, both h.state m.state p.state start bytes x y.1, (m, p, set, wrote, refl))
   where
     both : (s m p : State) (start : ℕ) (bytes : List ℕ) → Set start (length bytes) s m → Got start bytes m p → Put s (edit start bytes ∷ []) p
     both s m p start bytes x y =
@@ -133,40 +138,51 @@ put_next s m p x xs a b =
       memory = λ i. b.memory i ∙ ap (λ (v : ℕ). edited xs i v) (a.memory i);
     }
 
+pub put_in_next : (number : ℕ) (h m p : Held) (x : Edit) (xs : List Edit) → PutIn number (x ∷ []) h m → PutIn number xs m p → PutIn number (x ∷ xs) h p
+put_in_next number h m p x xs (set, put, sets, writes, same) rest =
+    (set, put, sets, writes, subst (λ (q : Held). PutIn number xs q p) same rest)
+
+pub made_next : (number : ℕ) (h m p : Held) (x : Edit) (xs : List Edit) → Made number (x ∷ []) h m → Made number xs m p → Made number (x ∷ xs) h p
+made_next number h m p x xs a b = (put_next h.state m.state p.state x xs a.0 b.0, put_in_next number h m p x xs a.1 b.1)
+
+pub made_none : (number : ℕ) (h : Held) → Made number [] h h
+made_none number h = (put_none h.state, refl)
+
 -- So far all but the rest was put in.
-pub record Far (s : State) (number : ℕ) (all rest : List Edit) (m : State) : Type 0 where
-  pub underway : Underway m number
-  pub few : length (declared m.image) + length rest ≤ length (declared s.image) + length all
-  pub so : (p : State) → Put m rest p → Put s all p
+pub record Far (h : Held) (number : ℕ) (all rest : List Edit) (m : Held) : Type 0 where
+  pub underway : Underway m.state number
+  pub few : length (declared m.state.image) + length rest ≤ length (declared h.state.image) + length all
+  pub so : (p : Held) → Made number rest m p → Made number all h p
 
-abbrev pub Putting : State → ℕ → List Edit → List Edit → State → Type 0
-Putting s number all rest m = Underway s number → length (declared s.image) + 5 < 17 → Far s number all rest m
+abbrev pub Putting : Held → ℕ → List Edit → List Edit → Held → Type 0
+Putting h number all rest m = Underway h.state number → length (declared h.state.image) + 5 < 17 → Far h number all rest m
 
-pub putting_starts : (s : State) (number : ℕ) (all : List Edit) → Putting s number all all s
-putting_starts s number all u few = record { underway = u; few = omega arith; so = λ p k. k }
+pub putting_starts : (h : Held) (number : ℕ) (all : List Edit) → Putting h number all all h
+putting_starts h number all u few = record { underway = u; few = omega arith; so = λ p k. k }
 
 -- the next patch is not refused
-pub putting_takes : (s m p : State) (number : ℕ) (all left rest : List Edit) (x y : Edit) (r : Result (Unit {0}) StoreFault)
-    → length all ≤ 5 → left ≡ x ∷ rest → y ≡ x → Putting s number all left m → Puts m number 1 (y ∷ []) r p
-    → Underway s number → length (declared s.image) + 5 < 17 → (r ≡ Ok tt) × Far s number all rest p
-putting_takes s m p number all left rest x y r short next same w puts u few =
-    let far = subst (λ (l : List Edit). Far s number all l m) next (w u few) in
-    let done = subst (λ (z : Edit). Puts m number 1 (z ∷ []) r p) same puts far.underway (omega (arith, far.few)) in
-    (done.0, farther far done.1)
+pub putting_takes : (h m p : Held) (number : ℕ) (all left rest : List Edit) (x y : Edit) (r : Result (Unit {0}) StoreFault)
+    → length all ≤ 5 → left ≡ x ∷ rest → y ≡ x → Putting h number all left m → Puts number 1 (y ∷ []) m r p
+    → Underway h.state number → length (declared h.state.image) + 5 < 17 → (r ≡ Ok tt) × Far h number all rest p
+putting_takes h m p number all left rest x y r short next same w puts u few =
+    let far = subst (λ (l : List Edit). Far h number all l m) next (w u few) in
+    let done = subst (λ (z : Edit). Puts number 1 (z ∷ []) m r p) same puts far.underway (omega (arith, far.few)) in
+    (done.0, farther far (done.1, done.2))
   where
-    farther : Far s number all (x ∷ rest) m → Put m (x ∷ []) p → Far s number all rest p
+    farther : Far h number all (x ∷ rest) m → Made number (x ∷ []) m p → Far h number all rest p
     farther far q =
         record {
-          underway = record { on = q.on ∙ far.underway.on; busy = q.busy ∙ far.underway.busy; fits = far.underway.fits ∙ sym (ap (λ (l : Log). l.ordinal + 1) q.log) };
+          underway = record { on = q.0.on ∙ far.underway.on; busy = q.0.busy ∙ far.underway.busy; fits = far.underway.fits ∙ sym (ap (λ (l : Log). l.ordinal + 1) q.0.log) };
           few =
-              let e = ap (λ (rs : List Run). length rs) q.runs in
-              omega (arith, e, joined_length x.start (x.start + length x.bytes) (declared m.image), far.few);
-          so = λ z k. far.so z (put_next m p z x rest q k);
+              let e = ap (λ (rs : List Run). length rs) q.0.runs in
+              omega (arith, e, joined_length x.start (x.start + length x.bytes) (declared m.state.image), far.few);
+          so = λ z k. far.so z (made_next number m p z x rest q k);
         }
 
-pub putting_ends : (s m : State) (number : ℕ) (all left : List Edit) (r : Result (Unit {0}) StoreFault) → left ≡ [] → r ≡ Ok tt → Putting s number all left m → Puts s number 5 all r m
-putting_ends s m number all left r none is w u few =
-    (is, (subst (λ (l : List Edit). Far s number all l m) none (w u few)).so m (put_none m))
+pub putting_ends : (h m : Held) (number : ℕ) (all left : List Edit) (r : Result (Unit {0}) StoreFault) → left ≡ [] → r ≡ Ok tt → Putting h number all left m → Puts number 5 all h r m
+putting_ends h m number all left r none is w u few =
+    let made = (subst (λ (l : List Edit). Far h number all l m) none (w u few)).so m (made_none number m) in
+    (is, made.0, made.1)
 
 -- the next of a plan's edits, by its patch; ys is the list by another name
 pub next_edit : (xs ys : List Patch) (i : ℕ) (x : Patch) → x ≡ get_or xs i x → xs ≡ ys → i < length xs
@@ -177,21 +193,22 @@ next_edit xs ys i x here same h =
     (drop_more (map edit_of xs) i (edit_of x) there ∙ ap (λ (y : Edit). y ∷ drop (i + 1) (map edit_of xs)) (get_or-map edit_of xs i x (edit_of x) h ∙ ap edit_of (sym here)))
 
 -- What was begun, put in and committed is a change.
-pub change_made : (s m p s' : State) (d e : Disk) (t : Token) (xs : List Edit) (flush : Bool) (put : Result (Unit {0}) StoreFault) (r : Result (ℕ × ℕ) StoreFault)
-    → Begins s (Ok t) m → Puts m t.number 5 xs put p → Finishes put p d t.number flush r s' e → declared s.image ≡ [] → Changes s d xs flush r s' e
-change_made s m p s' d e t xs flush put r (fits, number, made) puts finishes clean =
+pub change_made : (h m p k : Held) (t : Token) (xs : List Edit) (flush : Bool) (put : Result (Unit {0}) StoreFault) (r : Result (ℕ × ℕ) StoreFault)
+    → Begins h (Ok t) m → Puts t.number 5 xs m put p → Finishes put t.number flush p r k → declared h.state.image ≡ [] → Changes h xs flush r k
+change_made h m p k t xs flush put r begins puts finishes clean =
+    let made = begins.0.2 in
     let none = ap (λ (i : Image). declared i) made.image_is ∙ clean in
     let log = ap (λ (l : Log). l.ordinal + 1) made.log_is in
-    let on = made.on_is ∙ on_past s (busy s ∷ []) fits in
+    let on = made.on_is ∙ on_past h.state (busy h.state ∷ []) begins.0.0 in
     let few = ap (λ (rs : List Run). length rs) none in
-    let q = puts (record { on = on; busy = made.busy_is; fits = number ∙ sym log }) (omega (arith, few)) in
-    let commits = subst (λ (x : Result (Unit {0}) StoreFault). Finishes x p d t.number flush r s' e) q.0 finishes in
-    (p, prepared q.1 none, subst (λ (n : ℕ). Commits p d n flush r s' e) number commits)
+    let q = puts (record { on = on; busy = made.busy_is; fits = begins.0.1 ∙ sym log }) (omega (arith, few)) in
+    let commits = subst (λ (x : Result (Unit {0}) StoreFault). Finishes x t.number flush p r k) q.0 finishes in
+    record { token = t; begun = m; begins = begins; prepared = p; puts = q.2; prepares = prepared begins.0 q.1 none; commits = commits }
   where
-    prepared : Put m xs p → declared m.image ≡ [] → Prepared s xs p
-    prepared q none =
+    prepared : calls.Begins h.state (Ok t) m.state → Put m.state xs p.state → declared m.state.image ≡ [] → Prepared h.state xs p.state
+    prepared (fits, number, made) q none =
         record {
-          on = q.on ∙ made.on_is ∙ on_past s (busy s ∷ []) fits;
+          on = q.on ∙ made.on_is ∙ on_past h.state (busy h.state ∷ []) fits;
           busy = q.busy ∙ made.busy_is;
           log = q.log ∙ made.log_is;
           spool = q.spool ∙ made.spool_is;
@@ -201,16 +218,17 @@ change_made s m p s' d e t xs flush put r (fits, number, made) puts finishes cle
         }
 
 -- two patches
-pub both_put : (s m p : State) (number : ℕ) (x y : Edit) (xs : List Edit) (a : Unit {0}) (r : Result (Unit {0}) StoreFault) → x ∷ y ∷ [] ≡ xs
-    → Puts s number 1 (x ∷ []) (Ok a) m → Puts m number 1 (y ∷ []) r p → Puts s number 5 xs r p
-both_put s m p number x y xs a r is first second u few =
+pub both_put : (h m p : Held) (number : ℕ) (x y : Edit) (xs : List Edit) (a : Unit {0}) (r : Result (Unit {0}) StoreFault) → x ∷ y ∷ [] ≡ xs
+    → Puts number 1 (x ∷ []) h (Ok a) m → Puts number 1 (y ∷ []) m r p → Puts number 5 xs h r p
+both_put h m p number x y xs a r is first second u few =
     let all = x ∷ y ∷ [] in
-    let one = putting_takes s s m number all all (y ∷ []) x x (Ok a) (omega arith) refl refl (putting_starts s number all) first in
-    let two = putting_takes s m p number all (y ∷ []) [] y y r (omega arith) refl refl (λ u' few'. (one u' few').1) second u few in
-    (two.0, subst (λ (zs : List Edit). Put s zs p) is (two.1.so p (put_none p)))
+    let one = putting_takes h h m number all all (y ∷ []) x x (Ok a) (omega arith) refl refl (putting_starts h number all) first in
+    let two = putting_takes h m p number all (y ∷ []) [] y y r (omega arith) refl refl (λ u' few'. (one u' few').1) second u few in
+    let made = subst (λ (zs : List Edit). Made number zs h p) is (two.1.so p (made_none number p)) in
+    (two.0, made.0, made.1)
 
--- Begun, put in and committed, where neither the begin nor what was put in reached the device.
-pub performed : {D : Type 0} (disk : D → Disk) (s m p s' : State) (d d' e : D) (t : Token) (xs : List Edit) (flush : Bool) (put : Result (Unit {0}) StoreFault) (r : Result (ℕ × ℕ) StoreFault)
-    → Begins s (Ok t) m → Puts m t.number 5 xs put p → d' ≡ d → Finishes put p (disk d') t.number flush r s' (disk e) → Performs s (disk d) xs flush r s' (disk e)
-performed disk s m p s' d d' e t xs flush put r begins puts same finishes =
-    inr (begins.0, λ clean. subst (λ x. Changes s (disk x) xs flush r s' (disk e)) same (change_made s m p s' (disk d') (disk e) t xs flush put r begins puts finishes clean))
+-- Begun, put in and committed.
+pub performed : (h m p k : Held) (t : Token) (xs : List Edit) (flush : Bool) (put : Result (Unit {0}) StoreFault) (r : Result (ℕ × ℕ) StoreFault)
+    → Begins h (Ok t) m → Puts t.number 5 xs m put p → Finishes put t.number flush p r k → Performs xs flush h r k
+performed h m p k t xs flush put r begins puts finishes =
+    inr (begins.0.0, λ clean. change_made h m p k t xs flush put r begins puts finishes clean)

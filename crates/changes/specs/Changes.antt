@@ -1,10 +1,10 @@
 -- A change of the book as one transaction of the store.
-use Rattle.std.specs.Prelude.{◌≡◌, ℕ, ◌+◌, Bool, true, List, [], Result, slice_index}
-use Rattle.device.specs.Disk.{Disk}
+use Rattle.std.specs.Prelude.{◌≡◌, ℕ, Bool, true, List, [], ◌∷◌, length, Ok, Result, slice_index}
 use Rattle.image.specs.Calls.{declared}
 use Rattle.transactions.specs.declared.fault.StoreFault.{StoreFault}
 use Rattle.transactions.specs.declared.state.State.{State}
-use Rattle.transactions.specs.Calls.{Commits}
+use Rattle.transactions.specs.declared.token.Token.{Token}
+use Rattle.transactions.specs.Held.{Held, Begins, SetsRange, WritesRange, Commits}
 use Rattle.book.specs.Edits.{Edit, edited, declaring}
 
 -- A transaction just before its commit: it was begun, just the stretches of these edits were declared, and their bytes
@@ -18,6 +18,19 @@ pub record Prepared (s : State) (xs : List Edit) (p : State) : Type 0 where
   pub runs : declared p.image ≡ declaring xs []
   pub memory : (i : ℕ) → slice_index p.image.memory i ≡ edited xs i (slice_index s.image.memory i)
 
+-- The stretch of each edit is declared, and then its bytes are written, under the token with this number.
+abbrev pub PutIn : ℕ → List Edit → Held → Held → Type 0
+PutIn number [] h k = k ≡ h
+PutIn number (x ∷ xs) h k =
+    (set : Held) × (put : Held) × SetsRange number x.start (length x.bytes) h (Ok tt) set
+    × WritesRange number x.start x.bytes set (Ok tt) put × PutIn number xs put k
+
 -- The edits are made and committed by one transaction.
-abbrev pub Changes : State → Disk → List Edit → Bool → Result (ℕ × ℕ) StoreFault → State → Disk → Type 0
-Changes s d xs flush r s' e = (p : State) × Prepared s xs p × Commits p d (s.log.ordinal + 1) flush r s' e
+pub record Changes (h : Held) (xs : List Edit) (flush : Bool) (r : Result (ℕ × ℕ) StoreFault) (k : Held) : Type 0 where
+  pub token : Token
+  pub begun : Held
+  pub begins : Begins h (Ok token) begun
+  pub prepared : Held
+  pub puts : PutIn token.number xs begun prepared
+  pub prepares : Prepared h.state xs prepared.state
+  pub commits : Commits token.number flush prepared r k

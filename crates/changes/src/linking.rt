@@ -1,6 +1,7 @@
 // The free chain of a new ledger, and putting it in.
 ghost use Rattle.std.specs.Prelude.{◌≡◌, true};
 ghost use Rattle.book.specs.Edits.{free_chain, make_edits};
+ghost use Rattle.transactions.specs.Held.{held};
 ghost use Rattle.changes.specs.Steps.{Puts};
 
 use crate::putting::put;
@@ -25,7 +26,7 @@ fn links() -> [u8; BYTES]
 
 // Puts in the free chain's head, and the cells.
 pub(crate) fn put_links<D: Device>(store: &mut Store<D>, token: &Token) -> Result<(), StoreFault>
-    ensures done { Puts store.old.state token.now.number 5 make_edits result store.new.state }
+    ensures done { Puts token.now.number 5 make_edits (held store.old) result (held store.new) }
     ensures device { store.new.device ≡ store.old.device }
 {
     put(store, token, Chain::Free.head(), &[1, 0])?;

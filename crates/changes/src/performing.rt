@@ -2,6 +2,7 @@
 ghost use Rattle.std.specs.Prelude.{◌≡◌, true};
 ghost use Rattle.book.specs.Edits.{make_edits};
 ghost use Rattle.plans.specs.Plans.{edits_of};
+ghost use Rattle.transactions.specs.Held.{held};
 ghost use Rattle.changes.specs.Steps.{edits_in, Puts, Finishes, Performs};
 
 use crate::linking::put_links;
@@ -18,7 +19,7 @@ pub(crate) enum Work<'a> {
 }
 
 fn put_work<D: Device>(store: &mut Store<D>, token: &Token, work: Work) -> Result<(), StoreFault>
-    ensures done { Puts store.old.state token.now.number 5 (edits_in work.entry) result store.new.state }
+    ensures done { Puts token.now.number 5 (edits_in work.entry) (held store.old) result (held store.new) }
     ensures device { store.new.device ≡ store.old.device }
 {
     match work {
@@ -34,7 +35,7 @@ fn finish<D: Device>(
     put: Result<(), StoreFault>,
     flush: bool,
 ) -> Result<(u64, usize), StoreFault>
-    ensures { Finishes put store.old.state (D.Device.disk store.old.device) token.number flush result store.new.state (D.Device.disk store.new.device) }
+    ensures { Finishes put token.number flush (held store.old) result (held store.new) }
 {
     if let Err(fault) = put {
         store.abort(token)?;
@@ -49,7 +50,7 @@ fn transact<D: Device>(
     work: Work,
     flush: bool,
 ) -> Result<(u64, usize), StoreFault>
-    ensures { Performs store.old.state (D.Device.disk store.old.device) (edits_in work.entry) flush result store.new.state (D.Device.disk store.new.device) }
+    ensures { Performs (edits_in work.entry) flush (held store.old) result (held store.new) }
 {
     let token = store.begin()?;
     let put = put_work(store, &token, work);
@@ -63,14 +64,14 @@ pub fn perform<D: Device>(
     plan: &Plan,
     flush: bool,
 ) -> Result<(u64, usize), StoreFault>
-    ensures { Performs store.old.state (D.Device.disk store.old.device) (edits_of plan.now) flush result store.new.state (D.Device.disk store.new.device) }
+    ensures { Performs (edits_of plan.now) flush (held store.old) result (held store.new) }
 {
     transact(store, Work::Plan(plan), flush)
 }
 
 // Links the cells of a new ledger by one transaction, with flush.
 pub fn link_cells<D: Device>(store: &mut Store<D>) -> Result<(u64, usize), StoreFault>
-    ensures { Performs store.old.state (D.Device.disk store.old.device) make_edits true result store.new.state (D.Device.disk store.new.device) }
+    ensures { Performs make_edits true (held store.old) result (held store.new) }
 {
     transact(store, Work::Links, true)
 }

@@ -2,6 +2,7 @@
 ghost use Rattle.std.specs.Prelude.{◌≡◌, ◌+◌, ◌≤◌, [], ◌∷◌, length};
 ghost use Rattle.book.specs.Edits.{edit};
 ghost use Rattle.plans.specs.Plans.{edits_of};
+ghost use Rattle.transactions.specs.Held.{held};
 ghost use Rattle.changes.specs.Steps.{Puts};
 
 use device::Device;
@@ -17,7 +18,7 @@ pub(crate) fn put<D: Device>(
 ) -> Result<(), StoreFault>
     requires some { 1 ≤ length bytes.now }
     requires within { start + length bytes.now ≤ 6144 }
-    ensures done { Puts store.old.state token.now.number 1 (edit start bytes.now ∷ []) result store.new.state }
+    ensures done { Puts token.now.number 1 (edit start bytes.now ∷ []) (held store.old) result (held store.new) }
     ensures device { store.new.device ≡ store.old.device }
 {
     store.set_range(token, start, bytes.len())?;
@@ -30,7 +31,7 @@ pub(crate) fn put_all<D: Device>(
     token: &Token,
     plan: &Plan,
 ) -> Result<(), StoreFault>
-    ensures done { Puts store.old.state token.now.number 5 (edits_of plan.now) result store.new.state }
+    ensures done { Puts token.now.number 5 (edits_of plan.now) (held store.old) result (held store.new) }
     ensures device { store.new.device ≡ store.old.device }
 {
     for patch in plan.patches.iter() {
