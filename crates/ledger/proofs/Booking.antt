@@ -1,10 +1,12 @@
 -- A call that changes the book, by what was planned and what was made of it.
-use Rattle.std.proofs.Common.{◌≡◌, ℕ, Bool, true, List, [], None, Ok, Err, Result, sym, subst, inr}
+use Rattle.std.proofs.Common.{◌≡◌, ℕ, ◌⊎◌, Bool, true, List, [], None, Ok, Err, Result, sym, refl, ap, subst, inl, inr}
 use mathlib.Core.Logic.{∥∥₁_map}
-use Rattle.device.specs.Disk.{Disk}
 use Rattle.image.specs.Calls.{declared}
+use Rattle.transactions.specs.declared.fault.StoreFault.{StoreFault}
 use Rattle.transactions.specs.declared.state.State.{State}
+use Rattle.transactions.specs.Held as store
 use Rattle.book.specs.declared.fault.LedgerFault.{LedgerFault}
+use Rattle.book.specs.declared.fault.LedgerFault.TheVariants.{Store}
 use Rattle.book.specs.Layout.{byte_in}
 use Rattle.book.specs.Book.{Book, Holds}
 use Rattle.book.specs.Rows.{Row, first_fit, collect_rows}
@@ -14,9 +16,10 @@ use Rattle.book.proofs.Unlinking.{collect_holds}
 use Rattle.plans.specs.declared.plan.Plan.{Plan}
 use Rattle.plans.specs.Plans.{edits_of, Planned, Collected}
 use Rattle.changes.specs.Changes.{Changes}
-use Rattle.ledger.specs.Calls.{HoldsBook, on, ChangesBook, OnBook, Collects}
-use Rattle.ledger.specs.Steps.{Sound, ChangesTo}
-use Rattle.ledger.proofs.Standing.{done_changes, undone_leaves, holds_after, holds_same, is_on}
+use Rattle.ledger.specs.Sound.{HoldsBook, on, on_store, Sound}
+use Rattle.ledger.specs.Calls.{Refused, Made, Leaves, by_ordinal, with_entry, OnBook, Collects}
+use Rattle.ledger.specs.Steps.{ChangesTo}
+use Rattle.ledger.proofs.Standing.{committed, done_changes, undone_leaves, holds_after, holds_same, is_on}
 
 -- A change that takes each book to the next one.
 abbrev pub Lawful : (Book → List Row) → (Book → List Edit) → (Book → Book) → Type 0
@@ -34,51 +37,71 @@ Seen fit s m = (on fit s ≡ true) × (m ≡ s.image.memory)
 seen_book : (s : State) (m : List ℕ) (b : Book) → m ≡ s.image.memory → HoldsBook s b → Holds (byte_in m) b
 seen_book s m b e h = subst (λ (n : List ℕ). Holds (byte_in n) b) (sym e) h
 
--- one book's change
-pub book_changes : (rows : List Row) (xs : List Edit) (b' : Book) (s s' : State) (d e : Disk) (plan : Plan) (flush : Bool) (r : Result ℕ LedgerFault)
-    → declared s.image ≡ [] → Holds (after_edits xs (byte_in s.image.memory)) b' → Planned rows xs (Ok plan)
-    → ChangesTo s d (edits_of plan) flush r s' e → ChangesBook rows xs b' s d flush r s' e
-book_changes rows xs b' s s' d e plan flush (Ok o) clean next (fits, edits) (records, changes) =
-    let ch = subst (λ (ys : List Edit). Changes s d ys flush (Ok (o, records)) s' e) edits changes in
-    record { fits = fits; records = records; changes = ch; holds = holds_after s s' xs b' (done_changes s s' d e xs flush (o, records) ch) next }
-book_changes rows xs b' s s' d e plan flush (Err f) clean next (fits, edits) (fault, is, changes) =
-    let ch = subst (λ (ys : List Edit). Changes s d ys flush (Err fault) s' e) edits changes in
-    inr (record { fits = fits; fault = fault; is = is; changes = ch; left = λ k. (undone_leaves s s' d e xs flush fault clean ch k).memory })
+-- The look refused.
+pub refused : (rows : Book → List Row) (edits : Book → List Edit) (fit : Bool) (h : store.Held) (m : List ℕ) (f : LedgerFault)
+    → Seen fit h.state m → PlannedFor rows edits m (Err f) → Refused rows (on_store fit h) f (on_store fit h)
+refused rows edits fit h m f (awake, same) plans =
+    record { on = awake; fits = λ b holds. plans b (seen_book h.state m b same holds); same = refl }
 
--- the plan was made
-pub on_book : (rows : Book → List Row) (xs : Book → List Edit) (after : Book → Book) (fit : Bool) (s s' : State) (d e : Disk) (m : List ℕ) (plan : Plan) (flush : Bool) (r : Result ℕ LedgerFault)
-    → Lawful rows xs after → Sound fit s → Seen fit s m → PlannedFor rows xs m (Ok plan) → ChangesTo s d (edits_of plan) flush r s' e
-    → OnBook rows xs after fit s d flush r s' e
-on_book rows xs after fit s s' d e m plan flush r law sound (awake, same) plans changes =
-    inr (
-      awake,
-      λ b h.
-          let p = plans b (seen_book s m b same h) in
-          book_changes (rows b) (xs b) (after b) s s' d e plan flush r (sound.clean awake) (law (byte_in s.image.memory) b h p.0) p changes,
-    )
+-- A change as the ledger answers it, by what the store answered.
+pub by_store : (h k : store.Held) (xs : List Edit) (flush : Bool) (r : Result ℕ LedgerFault) → ChangesTo h xs flush r k
+    → (x : Result (ℕ × ℕ) StoreFault) × (r ≡ by_ordinal x) × Changes h xs flush x k
+by_store h k xs flush (Ok o) (records, c) = (Ok (o, records), refl, c)
+by_store h k xs flush (Err f) (fault, is, c) = (Err fault, ap Err is, c)
 
--- and how the ledger stands after it
-pub still_sound : (rows : Book → List Row) (xs : Book → List Edit) (after : Book → Book) (fit : Bool) (s s' : State) (d e : Disk) (m : List ℕ) (plan : Plan) (flush : Bool) (r : Result ℕ LedgerFault)
-    → Lawful rows xs after → Sound fit s → Seen fit s m → PlannedFor rows xs m (Ok plan) → ChangesTo s d (edits_of plan) flush r s' e → Sound fit s'
-still_sound rows xs after fit s s' d e m plan flush (Ok o) law sound (awake, same) plans (records, changes) =
-    let c = done_changes s s' d e (edits_of plan) flush (o, records) changes in
-    record {
-      books = λ _. ∥∥₁_map (sound.books awake) (λ x. (after x.0, holds_after s s' (edits_of plan) (after x.0) c (next x.0 x.1)));
-      free = λ _. c.free;
-      clean = λ _. c.clean;
-    }
-  where
-    next : (b : Book) → HoldsBook s b → Holds (after_edits (edits_of plan) (byte_in s.image.memory)) (after b)
-    next b h =
-        let p = plans b (seen_book s m b same h) in
-        subst (λ (ys : List Edit). Holds (after_edits ys (byte_in s.image.memory)) (after b)) (sym p.1) (law (byte_in s.image.memory) b h p.0)
-still_sound rows xs after fit s s' d e m plan flush (Err f) law sound (awake, same) plans (fault, is, changes) =
-    let left = undone_leaves s s' d e (edits_of plan) flush fault (sound.clean awake) changes in
-    record {
-      books = λ k. ∥∥₁_map (sound.books awake) (λ x. (x.0, holds_same s s' x.0 (left (is_on fit s' k)).memory x.1));
-      free = λ k. (left (is_on fit s' k)).free;
-      clean = λ k. (left (is_on fit s' k)).clean;
-    }
+-- The plan was made.
+module _ (rows : Book → List Row) (edits : Book → List Edit) (after : Book → Book) (fit : Bool) (h k : store.Held) (m : List ℕ) (plan : Plan) (flush : Bool)
+    (law : Lawful rows edits after) (sound : Sound fit h.state) (seen : Seen fit h.state m) (plans : PlannedFor rows edits m (Ok plan)) where
+  next : (b : Book) → HoldsBook h.state b → Holds (after_edits (edits_of plan) (byte_in h.state.image.memory)) (after b)
+  next b holds =
+      let p = plans b (seen_book h.state m b seen.1 holds) in
+      subst (λ (ys : List Edit). Holds (after_edits ys (byte_in h.state.image.memory)) (after b)) (sym p.1) (law (byte_in h.state.image.memory) b holds p.0)
+
+  leaves : (x : Result (ℕ × ℕ) StoreFault) → Changes h (edits_of plan) flush x k → Leaves after (on_store fit h) x (on_store fit k)
+  leaves (Ok x) c =
+      λ b holds.
+      holds_after h.state k.state (edits_of plan) (after b)
+      (done_changes h.state k.state h.disk k.disk (edits_of plan) flush x (committed h k (edits_of plan) flush (Ok x) c))
+      (next b holds)
+  leaves (Err f) c =
+      λ awake.
+      (undone_leaves h.state k.state h.disk k.disk (edits_of plan) flush f (sound.clean seen.0) (committed h k (edits_of plan) flush (Err f) c)
+      (is_on fit k.state awake)).memory
+
+  pub made : (x : Result (ℕ × ℕ) StoreFault) → Changes h (edits_of plan) flush x k → Made rows edits after flush (on_store fit h) x (on_store fit k)
+  made x c =
+      record {
+        on = seen.0;
+        fits = λ b holds. (plans b (seen_book h.state m b seen.1 holds)).0;
+        made = edits_of plan;
+        are = λ b holds. (plans b (seen_book h.state m b seen.1 holds)).1;
+        changes = c;
+        leaves = leaves x c;
+        fit = refl;
+      }
+
+  -- and how the ledger stands after it
+  pub still_sound : (x : Result (ℕ × ℕ) StoreFault) → Changes h (edits_of plan) flush x k → Sound fit k.state
+  still_sound (Ok x) c =
+      let done = done_changes h.state k.state h.disk k.disk (edits_of plan) flush x (committed h k (edits_of plan) flush (Ok x) c) in
+      record {
+        books = λ _. ∥∥₁_map (sound.books seen.0) (λ y. (after y.0, holds_after h.state k.state (edits_of plan) (after y.0) done (next y.0 y.1)));
+        free = λ _. done.free;
+        clean = λ _. done.clean;
+      }
+  still_sound (Err f) c =
+      let left = undone_leaves h.state k.state h.disk k.disk (edits_of plan) flush f (sound.clean seen.0) (committed h k (edits_of plan) flush (Err f) c) in
+      record {
+        books = λ awake. ∥∥₁_map (sound.books seen.0) (λ y. (y.0, holds_same h.state k.state y.0 (left (is_on fit k.state awake)).memory y.1));
+        free = λ awake. (left (is_on fit k.state awake)).free;
+        clean = λ awake. (left (is_on fit k.state awake)).clean;
+      }
+
+  pub on_book : (r : Result ℕ LedgerFault) → ChangesTo h (edits_of plan) flush r k → OnBook rows edits after flush (on_store fit h) r (on_store fit k)
+  on_book r c = let y = by_store h k (edits_of plan) flush r c in inr (inr (y.0, y.1, made y.0 y.2))
+
+  pub sound_after : (r : Result ℕ LedgerFault) → ChangesTo h (edits_of plan) flush r k → Sound fit k.state
+  sound_after r c = let y = by_store h k (edits_of plan) flush r c in still_sound y.0 y.2
 
 -- Collecting: the front entry is answered too.
 
@@ -87,30 +110,24 @@ abbrev pub CollectedFor : ℕ → List ℕ → Plan → Entry → Type 0
 CollectedFor a m plan entry =
     (b : Book) → Holds (byte_in m) b → Collected (collect_rows b a) (collect_edits b a) (front_of (b.entries a)) (Ok (plan, entry))
 
-collect_plans : (a : ℕ) (m : List ℕ) (plan : Plan) (entry : Entry) → CollectedFor a m plan entry → PlannedFor (λ b. collect_rows b a) (λ b. collect_edits b a) m (Ok plan)
-collect_plans a m plan entry plans b h = let q = plans b h in (q.0, q.1)
-
 collect_law : (a : ℕ) → Lawful (λ b. collect_rows b a) (λ b. collect_edits b a) (collected a)
 collect_law a f b = collect_holds f b a
 
-collect_changes : (a : ℕ) (s s' : State) (d e : Disk) (m : List ℕ) (plan : Plan) (entry : Entry) (flush : Bool) (r : Result ℕ LedgerFault)
-    → declared s.image ≡ [] → m ≡ s.image.memory → CollectedFor a m plan entry → ChangesTo s d (edits_of plan) flush r s' e
-    → (b : Book) → HoldsBook s b → ChangesBook (collect_rows b a) (collect_edits b a) (collected a b) s d flush r s' e
-collect_changes a s s' d e m plan entry flush r clean same plans changes b h =
-    let q = collect_plans a m plan entry plans b (seen_book s m b same h) in
-    book_changes (collect_rows b a) (collect_edits b a) (collected a b) s s' d e plan flush r clean (collect_law a (byte_in s.image.memory) b h q.0) q changes
+module _ (a : ℕ) (fit : Bool) (h k : store.Held) (m : List ℕ) (plan : Plan) (entry : Entry) (flush : Bool)
+    (sound : Sound fit h.state) (seen : Seen fit h.state m) (plans : CollectedFor a m plan entry) where
+  collect_plans : PlannedFor (λ b. collect_rows b a) (λ b. collect_edits b a) m (Ok plan)
+  collect_plans b holds = let q = plans b holds in (q.0, q.1)
 
-pub collects_done : (a : ℕ) (fit : Bool) (s s' : State) (d e : Disk) (m : List ℕ) (plan : Plan) (entry : Entry) (flush : Bool) (o : ℕ)
-    → Sound fit s → Seen fit s m → CollectedFor a m plan entry → ChangesTo s d (edits_of plan) flush (Ok o) s' e → Collects a fit s d flush (Ok (o, entry)) s' e
-collects_done a fit s s' d e m plan entry flush o sound (awake, same) plans changes =
-    inr (awake, λ b h. ((plans b (seen_book s m b same h)).2, collect_changes a s s' d e m plan entry flush (Ok o) (sound.clean awake) same plans changes b h))
+  collect_made : (x : Result (ℕ × ℕ) StoreFault) → Changes h (edits_of plan) flush x k → Made (λ b. collect_rows b a) (λ b. collect_edits b a) (collected a) flush (on_store fit h) x (on_store fit k)
+  collect_made = made (λ b. collect_rows b a) (λ b. collect_edits b a) (collected a) fit h k m plan flush (collect_law a) sound seen collect_plans
 
-pub collects_undone : (a : ℕ) (fit : Bool) (s s' : State) (d e : Disk) (m : List ℕ) (plan : Plan) (entry : Entry) (flush : Bool) (f : LedgerFault)
-    → Sound fit s → Seen fit s m → CollectedFor a m plan entry → ChangesTo s d (edits_of plan) flush (Err f) s' e → Collects a fit s d flush (Err f) s' e
-collects_undone a fit s s' d e m plan entry flush f sound (awake, same) plans changes =
-    inr (awake, collect_changes a s s' d e m plan entry flush (Err f) (sound.clean awake) same plans changes)
+  pub collects_done : (o : ℕ) → ChangesTo h (edits_of plan) flush (Ok o) k → Collects a flush (on_store fit h) (Ok (o, entry)) (on_store fit k)
+  collects_done o (records, c) =
+      inr (inr (Ok (o, records), entry, refl, λ b holds. (plans b (seen_book h.state m b seen.1 holds)).2, collect_made (Ok (o, records)) c))
 
-pub collect_sound : (a : ℕ) (fit : Bool) (s s' : State) (d e : Disk) (m : List ℕ) (plan : Plan) (entry : Entry) (flush : Bool) (r : Result ℕ LedgerFault)
-    → Sound fit s → Seen fit s m → CollectedFor a m plan entry → ChangesTo s d (edits_of plan) flush r s' e → Sound fit s'
-collect_sound a fit s s' d e m plan entry flush r sound seen plans changes =
-    still_sound (λ b. collect_rows b a) (λ b. collect_edits b a) (collected a) fit s s' d e m plan flush r (collect_law a) sound seen (collect_plans a m plan entry plans) changes
+  pub collects_undone : (f : LedgerFault) → ChangesTo h (edits_of plan) flush (Err f) k → Collects a flush (on_store fit h) (Err f) (on_store fit k)
+  collects_undone f (fault, is, c) =
+      inr (inr (Err fault, entry, ap Err is, λ b holds. (plans b (seen_book h.state m b seen.1 holds)).2, collect_made (Err fault) c))
+
+  pub collect_sound : (r : Result ℕ LedgerFault) → ChangesTo h (edits_of plan) flush r k → Sound fit k.state
+  collect_sound = sound_after (λ b. collect_rows b a) (λ b. collect_edits b a) (collected a) fit h k m plan flush (collect_law a) sound seen collect_plans

@@ -15,7 +15,8 @@ use Rattle.transactions.specs.declared.log.Log.{Log}
 use Rattle.transactions.specs.declared.state.State.{State}
 use Rattle.transactions.specs.Parts.{Spool}
 use Rattle.transactions.specs.Rows.{first_fit, begin_rows, token_rows, commit_rows}
-use Rattle.transactions.specs.State.{Fresh, Formatted, own}
+use Rattle.transactions.specs.State.{Fresh, own}
+use Rattle.transactions.specs.Held.{Held, Formatted}
 use Rattle.transactions.proofs.Loops.{length_parts}
 use Rattle.record.specs.Fields.{digits}
 use Rattle.book.specs.Layout.{byte_in}
@@ -27,9 +28,10 @@ use Rattle.book.specs.declared.fault.LedgerFault.{LedgerFault}
 use Rattle.book.specs.declared.fault.LedgerFault.TheVariants.{Store}
 use Rattle.book.specs.Fault.{number}
 use Rattle.book.specs.Book.{Holds, new_book}
-use Rattle.ledger.specs.Calls.{HoldsBook, Makes}
-use Rattle.ledger.specs.Steps.{Sound, Links}
-use Rattle.ledger.proofs.Standing.{own_token, done_changes, holds_after, off_stands}
+use Rattle.ledger.specs.Sound.{HoldsBook, on_store, Sound}
+use Rattle.ledger.specs.Calls.{Makes}
+use Rattle.ledger.specs.Steps.{Links}
+use Rattle.ledger.proofs.Standing.{Committed, committed, own_token, done_changes, holds_after, off_stands}
 
 -- the two runs of a new ledger become 52 records
 pub make_runs : declaring make_edits [] ≡ run 8 10 ∷ run 1072 5872 ∷ []
@@ -77,71 +79,52 @@ blank_memory n s new =
 may_begin : (s : State) (f : StoreFault) → s.on ≡ true → s.busy ≡ false → first_fit (begin_rows s) ≡ Some f → ⊥
 may_begin s f on free fits = some_none (first_fit (begin_rows s)) f (rw (on, free) refl) fits
 
-make_answer : (n : ℕ) (new s : State) (m e : Disk) (x : ℕ × ℕ) → Fresh n new → Changes new m make_edits true (Ok x) s e → x ≡ (1, 52)
-make_answer n new s m e x fresh (p, made, (fits, inl none)) =
+make_answer : (new k : Held) (n : ℕ) (x : ℕ × ℕ) → Fresh n new.state → Committed new.state new.disk make_edits true (Ok x) k.state k.disk → x ≡ (1, 52)
+make_answer new k n x fresh (p, made, (fits, inl none)) =
     let a = ap (λ (rs : List Run). length rs) (made.runs ∙ make_runs) in
     let b = ap (λ (rs : List Run). length rs) none.clean in
     absurd (omega (arith, a, b))
-make_answer n new s m e x fresh (p, made, (fits, inr parts)) =
+make_answer new k n x fresh (p, made, (fits, inr parts)) =
     parts.answer
     ∙ ap (λ (o : ℕ). (o + 1, length (own p))) (ap (λ (l : Log). l.ordinal) made.log ∙ fresh.log.ordinal_is)
-    ∙ ap (λ (k : ℕ). (1, k)) (make_records new p made)
+    ∙ ap (λ (k : ℕ). (1, k)) (make_records new.state p made)
 
-make_power : (n : ℕ) (new s : State) (m e : Disk) (f : StoreFault) → Fresh n new → Changes new m make_edits true (Err f) s e → number (Store f) ≡ 1
-make_power n new s m e f fresh (p, made, inl (fits, same, device)) = absurd (some_none (first_fit (token_rows p (new.log.ordinal + 1))) f (own_token new p make_edits made) fits)
-make_power n new s m e f fresh (p, made, inr (fits, inl refused)) =
-    absurd (some_none (first_fit (commit_rows p (length (own p)) true)) f (make_room n new p fresh made) refused.refused)
-make_power n new s m e f fresh (p, made, inr (fits, inr cut)) = ap (λ (g : StoreFault). number (Store g)) cut.cut.fault
+make_power : (new k : Held) (n : ℕ) (f : StoreFault) → Fresh n new.state → Committed new.state new.disk make_edits true (Err f) k.state k.disk → number (Store f) ≡ 1
+make_power new k n f fresh (p, made, inl (fits, same, device)) = absurd (some_none (first_fit (token_rows p (new.state.log.ordinal + 1))) f (own_token new.state p make_edits made) fits)
+make_power new k n f fresh (p, made, inr (fits, inl refused)) =
+    absurd (some_none (first_fit (commit_rows p (length (own p)) true)) f (make_room n new.state p fresh made) refused.refused)
+make_power new k n f fresh (p, made, inr (fits, inr cut)) = ap (λ (g : StoreFault). number (Store g)) cut.cut.fault
 
-new_holds : (n : ℕ) (new s : State) (m e : Disk) (x : ℕ × ℕ) → Fresh n new → Changes new m make_edits true (Ok x) s e → HoldsBook s new_book
-new_holds n new s m e x fresh ch =
-    holds_after new s make_edits new_book (done_changes new s m e make_edits true x ch)
-    (subst (λ (f : ℕ → ℕ). Holds (after_edits make_edits f) new_book) (sym (blank_memory n new fresh)) make_holds)
+new_holds : (new k : Held) (n : ℕ) (x : ℕ × ℕ) → Fresh n new.state → Changes new make_edits true (Ok x) k → HoldsBook k.state new_book
+new_holds new k n x fresh c =
+    holds_after new.state k.state make_edits new_book (done_changes new.state k.state new.disk k.disk make_edits true x (committed new k make_edits true (Ok x) c))
+    (subst (λ (f : ℕ → ℕ). Holds (after_edits make_edits f) new_book) (sym (blank_memory n new.state fresh)) make_holds)
 
-pub makes : (d m e : Disk) (new s : State) (formatted : Result (Unit {0}) StoreFault) (r : Result (Unit {0}) LedgerFault)
-    → Formatted d formatted m new → Links formatted new m r s e → Makes d r e (is_ok r) s
-makes d m e new s (Err f) r format (is, state, device) =
-    subst (λ (x : Result (Unit {0}) LedgerFault). Makes d x e (is_ok x) s) (sym is) (
+pub makes : (d : Disk) (new k : Held) (formatted : Result (Unit {0}) StoreFault) (r : Result (Unit {0}) LedgerFault)
+    → Formatted d formatted new → Links formatted new r k → Makes d r (on_store (is_ok r) k)
+makes d new k (Err f) r format (is, same) =
+    subst (λ (x : Result (Unit {0}) LedgerFault). Makes d x (on_store (is_ok x) k)) (sym is)
+    (refl, (f, refl, inl (subst (Formatted d (Err f)) (sym same) format)))
+makes d new k (Ok u) (Ok v) (n, formats, fresh) (x, inl (f, fits, is, same)) = absurd (may_begin new.state f fresh.on fresh.idle.free fits)
+makes d new k (Ok u) (Ok v) (n, formats, fresh) (x, inr (fits, change)) =
+    let c = change fresh.idle.clean in
+    let same = make_answer new k n x fresh (committed new k make_edits true (Ok x) c) in (
       refl,
-      inl (record {
-        fault = f;
-        is = refl;
-        format = subst (λ (t : State). Formatted d (Err f) e t) (sym state) (subst (λ (k : Disk). Formatted d (Err f) k new) (sym device) format);
-      }),
+      record { formatted = new; format = (n, formats, fresh); changes = subst (λ (y : ℕ × ℕ). Changes new make_edits true (Ok y) k) same c },
+      new_holds new k n x fresh c,
     )
-makes d m e new s (Ok u) (Ok v) (n, formats, fresh) (x, inl (f, fits, refused, state, device)) = absurd (may_begin new f fresh.on fresh.idle.free fits)
-makes d m e new s (Ok u) (Ok v) (n, formats, fresh) (x, inr (fits, change)) =
-    let ch = change fresh.idle.clean in (
-      refl,
-      record {
-        new = new;
-        formatted = m;
-        format = (n, formats, fresh);
-        changes = subst (λ (y : ℕ × ℕ). Changes new m make_edits true (Ok y) s e) (make_answer n new s m e x fresh ch) ch;
-        holds = new_holds n new s m e x fresh ch;
-      },
-    )
-makes d m e new s (Ok u) (Err f) (n, formats, fresh) (fault, is, inl (g, fits, refused, state, device)) = absurd (may_begin new g fresh.on fresh.idle.free fits)
-makes d m e new s (Ok u) (Err f) (n, formats, fresh) (fault, is, inr (fits, change)) =
-    let ch = change fresh.idle.clean in (
-      refl,
-      inr (record {
-        new = new;
-        formatted = m;
-        format = (n, formats, fresh);
-        fault = fault;
-        is = is;
-        power = ap number is ∙ make_power n new s m e fault fresh ch;
-        changes = ch;
-      }),
-    )
+makes d new k (Ok u) (Err f) (n, formats, fresh) (fault, is, inl (g, fits, refusal, same)) = absurd (may_begin new.state g fresh.on fresh.idle.free fits)
+makes d new k (Ok u) (Err f) (n, formats, fresh) (fault, is, inr (fits, change)) =
+    let c = change fresh.idle.clean in
+    let power = make_power new k n fault fresh (committed new k make_edits true (Err fault) c) in
+    (refl, (fault, is, inr (ap number is ∙ power, record { formatted = new; format = (n, formats, fresh); changes = c })))
 
-pub make_stands : (d m e : Disk) (new s : State) (formatted : Result (Unit {0}) StoreFault) (r : Result (Unit {0}) LedgerFault)
-    → Formatted d formatted m new → Links formatted new m r s e → Sound (is_ok r) s
-make_stands d m e new s (Err f) r format (is, state, device) = subst (λ (x : Result (Unit {0}) LedgerFault). Sound (is_ok x) s) (sym is) (off_stands false s refl)
-make_stands d m e new s (Ok u) (Err f) format links = off_stands false s refl
-make_stands d m e new s (Ok u) (Ok v) (n, formats, fresh) (x, inl (f, fits, refused, state, device)) = absurd (may_begin new f fresh.on fresh.idle.free fits)
-make_stands d m e new s (Ok u) (Ok v) (n, formats, fresh) (x, inr (fits, change)) =
-    let ch = change fresh.idle.clean in
-    let c = done_changes new s m e make_edits true x ch in
-    record { books = λ k. ∣ (new_book, new_holds n new s m e x fresh ch) ∣₁; free = λ k. c.free; clean = λ k. c.clean }
+pub make_stands : (d : Disk) (new k : Held) (formatted : Result (Unit {0}) StoreFault) (r : Result (Unit {0}) LedgerFault)
+    → Formatted d formatted new → Links formatted new r k → Sound (is_ok r) k.state
+make_stands d new k (Err f) r format (is, same) = subst (λ (x : Result (Unit {0}) LedgerFault). Sound (is_ok x) k.state) (sym is) (off_stands false k.state refl)
+make_stands d new k (Ok u) (Err f) format links = off_stands false k.state refl
+make_stands d new k (Ok u) (Ok v) (n, formats, fresh) (x, inl (f, fits, is, same)) = absurd (may_begin new.state f fresh.on fresh.idle.free fits)
+make_stands d new k (Ok u) (Ok v) (n, formats, fresh) (x, inr (fits, change)) =
+    let c = change fresh.idle.clean in
+    let done = done_changes new.state k.state new.disk k.disk make_edits true x (committed new k make_edits true (Ok x) c) in
+    record { books = λ _. ∣ (new_book, new_holds new k n x fresh c) ∣₁; free = λ _. done.free; clean = λ _. done.clean }

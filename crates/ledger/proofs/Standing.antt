@@ -1,5 +1,5 @@
 -- What the store's memory is after a change, and how a ledger stands then.
-use Rattle.std.proofs.Common.{◌≡◌, ℕ, ◌+◌, Bool, true, false, List, [], get_or, None, Ok, Err, Result, sym, refl, ap, ◌∙◌, subst, inl, inr}
+use Rattle.std.proofs.Common.{◌≡◌, ℕ, ◌+◌, Bool, true, false, List, [], ◌∷◌, get_or, None, Ok, Err, Result, sym, refl, ap, ◌∙◌, subst, inl, inr}
 use mathlib.Core.Logic.{∥∥₁_map}
 use Rattle.std.proofs.Math.Path.{fun_ext}
 use Rattle.std.proofs.lemmas.Bool.{both_ways, and_parts}
@@ -12,16 +12,16 @@ use Rattle.image.specs.Calls.{declared}
 use Rattle.transactions.specs.declared.fault.StoreFault.{StoreFault}
 use Rattle.transactions.specs.declared.log.Log.{Log}
 use Rattle.transactions.specs.declared.state.State.{State}
-use Rattle.transactions.specs.Calls.{Flushes}
 use Rattle.transactions.specs.Truncation.{Truncates}
 use Rattle.transactions.specs.Rows.{first_fit, token_rows}
 use Rattle.book.specs.Layout.{byte_in}
 use Rattle.book.specs.Book.{Book, Holds}
 use Rattle.book.specs.Edits.{Edit, after_edits}
-use Rattle.changes.specs.Changes.{Prepared, Changes}
+use Rattle.transactions.specs.Calls.{Flushes, Commits}
+use Rattle.transactions.specs.Held.{Held}
+use Rattle.changes.specs.Changes.{Prepared, PutIn, Changes}
 use Rattle.changes.proofs.Patches.{some_none, token_fits}
-use Rattle.ledger.specs.Calls.{HoldsBook, on}
-use Rattle.ledger.specs.Steps.{Sound}
+use Rattle.ledger.specs.Sound.{HoldsBook, on, Sound}
 
 -- where nothing is declared, the memory is as at begin
 pub unchanged : (x : Image) → declared x ≡ [] → x.before ≡ x.memory
@@ -30,13 +30,30 @@ unchanged x clean =
     (ext_get_or 0 x.memory x.before (x.whole ∙ sym x.kept)
     (λ i h. x.same i (λ k. subst (λ (rs : List Run). Declared rs i) clean k)))
 
+-- A change by what was prepared, and its commit.
+abbrev pub Committed : State → Disk → List Edit → Bool → Result (ℕ × ℕ) StoreFault → State → Disk → Type 0
+Committed s d xs flush r s' e = (p : State) × Prepared s xs p × Commits p d (s.log.ordinal + 1) flush r s' e
+
+put_in_disk : (number : ℕ) (xs : List Edit) (h k : Held) → PutIn number xs h k → k.disk ≡ h.disk
+put_in_disk number [] h k same = ap (λ (x : Held). x.disk) same
+put_in_disk number (x ∷ xs) h k (set, put, sets, writes, rest) = put_in_disk number xs put k rest ∙ writes.1 ∙ sets.1
+
+pub committed : (h k : Held) (xs : List Edit) (flush : Bool) (r : Result (ℕ × ℕ) StoreFault) → Changes h xs flush r k → Committed h.state h.disk xs flush r k.state k.disk
+committed h k xs flush r x =
+    let here = put_in_disk x.token.number xs x.begun x.prepared x.puts ∙ x.begins.1 in (
+      x.prepared.state,
+      x.prepares,
+      subst (λ (n : ℕ). Commits x.prepared.state h.disk n flush r k.state k.disk) x.begins.0.1
+          (subst (λ (d : Disk). Commits x.prepared.state d x.token.number flush r k.state k.disk) here x.commits),
+    )
+
 -- The memory has the edits, no transaction is open, and nothing is declared.
 pub record Changed (s : State) (xs : List Edit) (s' : State) : Type 0 where
   pub memory : byte_in s'.image.memory ≡ after_edits xs (byte_in s.image.memory)
   pub free : s'.busy ≡ false
   pub clean : declared s'.image ≡ []
 
-pub done_changes : (s s' : State) (d e : Disk) (xs : List Edit) (flush : Bool) (x : ℕ × ℕ) → Changes s d xs flush (Ok x) s' e → Changed s xs s'
+pub done_changes : (s s' : State) (d e : Disk) (xs : List Edit) (flush : Bool) (x : ℕ × ℕ) → Committed s d xs flush (Ok x) s' e → Changed s xs s'
 done_changes s s' d e xs flush x (p, made, (fits, inl none)) =
     record {
       memory = fun_ext (λ i. ap (λ (y : Image). get_or y.memory i 0) none.state.image_is ∙ made.memory i);
@@ -61,7 +78,7 @@ pub own_token : (s p : State) (xs : List Edit) → Prepared s xs p → first_fit
 own_token s p xs made =
     token_fits p (s.log.ordinal + 1) (record { on = made.on; busy = made.busy; fits = sym (ap (λ (l : Log). l.ordinal + 1) made.log) })
 
-pub undone_leaves : (s s' : State) (d e : Disk) (xs : List Edit) (flush : Bool) (f : StoreFault) → declared s.image ≡ [] → Changes s d xs flush (Err f) s' e → s'.on ≡ true → Left s s'
+pub undone_leaves : (s s' : State) (d e : Disk) (xs : List Edit) (flush : Bool) (f : StoreFault) → declared s.image ≡ [] → Committed s d xs flush (Err f) s' e → s'.on ≡ true → Left s s'
 undone_leaves s s' d e xs flush f clean (p, made, inl (fits, same, device)) awake =
     absurd (some_none (first_fit (token_rows p (s.log.ordinal + 1))) f (own_token s p xs made) fits)
 undone_leaves s s' d e xs flush f clean (p, made, inr (fits, inl refused)) awake =

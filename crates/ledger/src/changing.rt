@@ -2,7 +2,9 @@
 ghost use Rattle.std.specs.Prelude.{◌≡◌, true};
 ghost use Rattle.plans.specs.Plans.{edits_of};
 ghost use Rattle.ledger.specs.Calls.{Issues, Moves, Visits, Enrols, Drops, Collects};
-ghost use Rattle.ledger.specs.Steps.{Sound, ChangesTo};
+ghost use Rattle.transactions.specs.Held.{held};
+ghost use Rattle.ledger.specs.Sound.{Sound, on_store};
+ghost use Rattle.ledger.specs.Steps.{ChangesTo};
 
 use crate::looking::look;
 use book::{Entry, LedgerFault};
@@ -15,7 +17,7 @@ use transactions::Store;
 fn change<D: Device>(store: &mut Store<D>, plan: &Plan, flush: bool) -> Result<u64, LedgerFault>
     requires on { store.old.state.on ≡ true }
     requires sound { Sound true store.old.state }
-    ensures { ChangesTo store.old.state (D.Device.disk store.old.device) (edits_of plan.now) flush result store.new.state (D.Device.disk store.new.device) }
+    ensures { ChangesTo (held store.old) (edits_of plan.now) flush result (held store.new) }
 {
     let (ordinal, _) = perform(store, plan, flush)?;
     Ok(ordinal)
@@ -29,7 +31,7 @@ pub(crate) fn issue<D: Device>(
     flush: bool,
 ) -> Result<u64, LedgerFault>
     requires { Sound fit store.old.state }
-    ensures issues { Issues account amount fit store.old.state (D.Device.disk store.old.device) flush result store.new.state (D.Device.disk store.new.device) }
+    ensures issues { Issues account amount flush (on_store fit (held store.old)) result (on_store fit (held store.new)) }
     ensures sound { Sound fit store.new.state }
 {
     let plan = plan_issue(look(store, fit)?, account, amount)?;
@@ -45,7 +47,7 @@ pub(crate) fn transfer<D: Device>(
     flush: bool,
 ) -> Result<u64, LedgerFault>
     requires { Sound fit store.old.state }
-    ensures moves { Moves payer payee amount fit store.old.state (D.Device.disk store.old.device) flush result store.new.state (D.Device.disk store.new.device) }
+    ensures moves { Moves payer payee amount flush (on_store fit (held store.old)) result (on_store fit (held store.new)) }
     ensures sound { Sound fit store.new.state }
 {
     let plan = plan_move(look(store, fit)?, payer, payee, amount)?;
@@ -60,7 +62,7 @@ pub(crate) fn visit<D: Device>(
     flush: bool,
 ) -> Result<u64, LedgerFault>
     requires { Sound fit store.old.state }
-    ensures visits { Visits id.now guard fit store.old.state (D.Device.disk store.old.device) flush result store.new.state (D.Device.disk store.new.device) }
+    ensures visits { Visits id.now guard flush (on_store fit (held store.old)) result (on_store fit (held store.new)) }
     ensures sound { Sound fit store.new.state }
 {
     let plan = plan_visit(look(store, fit)?, id, guard)?;
@@ -75,7 +77,7 @@ pub(crate) fn enrol<D: Device>(
     flush: bool,
 ) -> Result<u64, LedgerFault>
     requires { Sound fit store.old.state }
-    ensures enrols { Enrols id.now account fit store.old.state (D.Device.disk store.old.device) flush result store.new.state (D.Device.disk store.new.device) }
+    ensures enrols { Enrols id.now account flush (on_store fit (held store.old)) result (on_store fit (held store.new)) }
     ensures sound { Sound fit store.new.state }
 {
     let plan = plan_enrol(look(store, fit)?, id, account)?;
@@ -89,7 +91,7 @@ pub(crate) fn drop_tag<D: Device>(
     flush: bool,
 ) -> Result<u64, LedgerFault>
     requires { Sound fit store.old.state }
-    ensures drops { Drops id.now fit store.old.state (D.Device.disk store.old.device) flush result store.new.state (D.Device.disk store.new.device) }
+    ensures drops { Drops id.now flush (on_store fit (held store.old)) result (on_store fit (held store.new)) }
     ensures sound { Sound fit store.new.state }
 {
     let plan = plan_drop(look(store, fit)?, id)?;
@@ -103,7 +105,7 @@ pub(crate) fn collect<D: Device>(
     flush: bool,
 ) -> Result<(u64, Entry), LedgerFault>
     requires { Sound fit store.old.state }
-    ensures collects { Collects account fit store.old.state (D.Device.disk store.old.device) flush result store.new.state (D.Device.disk store.new.device) }
+    ensures collects { Collects account flush (on_store fit (held store.old)) result (on_store fit (held store.new)) }
     ensures sound { Sound fit store.new.state }
 {
     let (plan, entry) = plan_collect(look(store, fit)?, account)?;

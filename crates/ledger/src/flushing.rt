@@ -1,6 +1,7 @@
 // The calls of the store that a ledger passes on.
-ghost use Rattle.ledger.specs.Calls.{FlushesLedger, TruncatesLedger};
-ghost use Rattle.ledger.specs.Steps.{Sound};
+ghost use Rattle.transactions.specs.Held.{held};
+ghost use Rattle.ledger.specs.Sound.{Sound, on_store};
+ghost use Rattle.ledger.specs.Calls.{Flushes, Truncates};
 
 use crate::looking::look;
 use book::LedgerFault;
@@ -9,7 +10,7 @@ use transactions::Store;
 
 pub(crate) fn flush<D: Device>(store: &mut Store<D>, fit: bool) -> Result<usize, LedgerFault>
     requires { Sound fit store.old.state }
-    ensures flushes { FlushesLedger fit store.old.state (D.Device.disk store.old.device) result store.new.state (D.Device.disk store.new.device) }
+    ensures flushes { Flushes (on_store fit (held store.old)) result (on_store fit (held store.new)) }
     ensures sound { Sound fit store.new.state }
 {
     look(store, fit)?;
@@ -18,7 +19,7 @@ pub(crate) fn flush<D: Device>(store: &mut Store<D>, fit: bool) -> Result<usize,
 
 pub(crate) fn truncate<D: Device>(store: &mut Store<D>, fit: bool) -> Result<usize, LedgerFault>
     requires { Sound fit store.old.state }
-    ensures truncates { TruncatesLedger fit store.old.state (D.Device.disk store.old.device) result store.new.state (D.Device.disk store.new.device) }
+    ensures truncates { Truncates (on_store fit (held store.old)) result (on_store fit (held store.new)) }
     ensures sound { Sound fit store.new.state }
 {
     look(store, fit)?;

@@ -1,7 +1,6 @@
 // A ledger over a device, and its calls.
 ghost use Rattle.std.specs.Prelude.{◌≡◌};
-ghost use Rattle.ledger.specs.Calls.{Makes, OpensLedger, Issues, Moves, Visits, Enrols, Drops, Collects, Finds, Balances, FlushesLedger, TruncatesLedger};
-ghost use Rattle.ledger.specs.Steps.{Sound};
+ghost use Rattle.ledger.specs.Sound.{Sound};
 
 use crate::changing::{collect, drop_tag, enrol, issue, transfer, visit};
 use crate::flushing::{flush, truncate};
@@ -21,10 +20,13 @@ pub struct Ledger<D: Device> {
 }
 
 impl<D: Device> Ledger<D> {
+    ghost use Rattle.ledger.specs.Held.{held};
+    ghost use Rattle.ledger.specs.Calls.{Makes, Opens, Issues, Moves, Visits, Enrols, Drops, Collects, Finds, Balances, Flushes, Truncates};
+
     // Makes a new ledger on the device: nothing is issued, and every cell is free. Where the store refuses, or power
     // fails, the ledger is off, and only close works.
     pub fn make(device: D) -> (Ledger<D>, Result<(), LedgerFault>)
-        ensures { Makes (D.Device.disk device) result.1 (D.Device.disk result.0.store.device) result.0.fit result.0.store.state }
+        ensures { Makes (D.Device.disk device) result.1 (held result.0) }
     {
         let (store, answer) = make(device);
         let fit = answer.is_ok();
@@ -34,7 +36,7 @@ impl<D: Device> Ledger<D> {
     // Opens the ledger that the device holds, and answers the number of transactions found and how many strays were
     // cleared. Where that is refused, or power fails, the ledger is off, and only close works.
     pub fn open(device: D) -> (Ledger<D>, Result<(u64, usize), LedgerFault>)
-        ensures { OpensLedger (D.Device.disk device) result.1 (D.Device.disk result.0.store.device) result.0.fit result.0.store.state }
+        ensures { Opens (D.Device.disk device) result.1 (held result.0) }
     {
         let (store, answer) = open(device);
         let fit = answer.is_ok();
@@ -51,8 +53,7 @@ impl<D: Device> Ledger<D> {
 
     // Adds to an account's balance and to the total.
     pub fn issue(&mut self, account: u16, amount: u64, flush: bool) -> Result<u64, LedgerFault>
-        ensures issues { Issues account amount self.old.fit self.old.store.state (D.Device.disk self.old.store.device) flush result self.new.store.state (D.Device.disk self.new.store.device) }
-        ensures fit { self.new.fit ≡ self.old.fit }
+        ensures { Issues account amount flush (held self.old) result (held self.new) }
     {
         issue(&mut self.store, self.fit, account, amount, flush)
     }
@@ -65,70 +66,63 @@ impl<D: Device> Ledger<D> {
         amount: u64,
         flush: bool,
     ) -> Result<u64, LedgerFault>
-        ensures moves { Moves payer payee amount self.old.fit self.old.store.state (D.Device.disk self.old.store.device) flush result self.new.store.state (D.Device.disk self.new.store.device) }
-        ensures fit { self.new.fit ≡ self.old.fit }
+        ensures { Moves payer payee amount flush (held self.old) result (held self.new) }
     {
         transfer(&mut self.store, self.fit, payer, payee, amount, flush)
     }
 
     // Pays 1 from the account of a tag to a guard's.
     pub fn visit(&mut self, id: &[u8; 8], guard: u16, flush: bool) -> Result<u64, LedgerFault>
-        ensures visits { Visits id.now guard self.old.fit self.old.store.state (D.Device.disk self.old.store.device) flush result self.new.store.state (D.Device.disk self.new.store.device) }
-        ensures fit { self.new.fit ≡ self.old.fit }
+        ensures { Visits id.now guard flush (held self.old) result (held self.new) }
     {
         visit(&mut self.store, self.fit, id, guard, flush)
     }
 
     // Puts a tag of this account into its bucket.
     pub fn enrol(&mut self, id: &[u8; 8], account: u16, flush: bool) -> Result<u64, LedgerFault>
-        ensures enrols { Enrols id.now account self.old.fit self.old.store.state (D.Device.disk self.old.store.device) flush result self.new.store.state (D.Device.disk self.new.store.device) }
-        ensures fit { self.new.fit ≡ self.old.fit }
+        ensures { Enrols id.now account flush (held self.old) result (held self.new) }
     {
         enrol(&mut self.store, self.fit, id, account, flush)
     }
 
     // Takes a tag out of its bucket. Its name keeps clear of the trait that lets a value go.
     pub fn drop_tag(&mut self, id: &[u8; 8], flush: bool) -> Result<u64, LedgerFault>
-        ensures drops { Drops id.now self.old.fit self.old.store.state (D.Device.disk self.old.store.device) flush result self.new.store.state (D.Device.disk self.new.store.device) }
-        ensures fit { self.new.fit ≡ self.old.fit }
+        ensures { Drops id.now flush (held self.old) result (held self.new) }
     {
         drop_tag(&mut self.store, self.fit, id, flush)
     }
 
     // Takes an account's front entry off, and answers it too.
     pub fn collect(&mut self, account: u16, flush: bool) -> Result<(u64, Entry), LedgerFault>
-        ensures collects { Collects account self.old.fit self.old.store.state (D.Device.disk self.old.store.device) flush result self.new.store.state (D.Device.disk self.new.store.device) }
-        ensures fit { self.new.fit ≡ self.old.fit }
+        ensures { Collects account flush (held self.old) result (held self.new) }
     {
         collect(&mut self.store, self.fit, account, flush)
     }
 
     // The account of a tag, if it is there.
     pub fn find(&self, id: &[u8; 8]) -> Result<Option<u16>, LedgerFault>
-        ensures { Finds id.now self.now.fit self.now.store.state result }
+        ensures { Finds id.now (held self.now) result }
     {
         find(&self.store, self.fit, id)
     }
 
     // The balance of an account.
     pub fn balance(&self, account: u16) -> Result<u64, LedgerFault>
-        ensures { Balances account self.now.fit self.now.store.state result }
+        ensures { Balances account (held self.now) result }
     {
         balance(&self.store, self.fit, account)
     }
 
     // Writes and settles what waits, and answers how many records that were.
     pub fn flush(&mut self) -> Result<usize, LedgerFault>
-        ensures flushes { FlushesLedger self.old.fit self.old.store.state (D.Device.disk self.old.store.device) result self.new.store.state (D.Device.disk self.new.store.device) }
-        ensures fit { self.new.fit ≡ self.old.fit }
+        ensures { Flushes (held self.old) result (held self.new) }
     {
         flush(&mut self.store, self.fit)
     }
 
     // Writes what changed in the memory to its homes and begins the log anew. Answers how many pages that were.
     pub fn truncate(&mut self) -> Result<usize, LedgerFault>
-        ensures truncates { TruncatesLedger self.old.fit self.old.store.state (D.Device.disk self.old.store.device) result self.new.store.state (D.Device.disk self.new.store.device) }
-        ensures fit { self.new.fit ≡ self.old.fit }
+        ensures { Truncates (held self.old) result (held self.new) }
     {
         truncate(&mut self.store, self.fit)
     }

@@ -1,6 +1,8 @@
 // Looks at the memory of a ledger, which change nothing.
+ghost use Rattle.transactions.specs.Held.{held};
+ghost use Rattle.ledger.specs.Sound.{on_store};
 ghost use Rattle.ledger.specs.Calls.{Balances, Finds};
-ghost use Rattle.ledger.specs.Steps.{Sound, Looks};
+ghost use Rattle.ledger.specs.Steps.{Looks};
 
 use book::LedgerFault;
 use device::{Device, DeviceFault};
@@ -22,7 +24,7 @@ pub(crate) fn balance<D: Device>(
     fit: bool,
     account: u16,
 ) -> Result<u64, LedgerFault>
-    ensures { Balances account fit store.now.state result }
+    ensures { Balances account (on_store fit (held store.now)) result }
 {
     balance_of(look(store, fit)?, account)
 }
@@ -32,7 +34,7 @@ pub(crate) fn find<D: Device>(
     fit: bool,
     id: &[u8; 8],
 ) -> Result<Option<u16>, LedgerFault>
-    ensures { Finds id.now fit store.now.state result }
+    ensures { Finds id.now (on_store fit (held store.now)) result }
 {
     Ok(find_tag(look(store, fit)?, id))
 }

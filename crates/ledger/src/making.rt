@@ -1,7 +1,9 @@
 // New ledgers, and those that a device holds.
 ghost use Rattle.std.specs.Result.{is_ok};
-ghost use Rattle.ledger.specs.Calls.{Makes, OpensLedger};
-ghost use Rattle.ledger.specs.Steps.{Sound, Links, Checks};
+ghost use Rattle.transactions.specs.Held.{held};
+ghost use Rattle.ledger.specs.Sound.{Sound, on_store};
+ghost use Rattle.ledger.specs.Calls.{Makes, Opens};
+ghost use Rattle.ledger.specs.Steps.{Links, Checks};
 
 use audit::is_ledger;
 use book::LedgerFault;
@@ -14,7 +16,7 @@ fn link<D: Device>(
     store: &mut Store<D>,
     formatted: Result<(), StoreFault>,
 ) -> Result<(), LedgerFault>
-    ensures { Links formatted store.old.state (D.Device.disk store.old.device) result store.new.state (D.Device.disk store.new.device) }
+    ensures { Links formatted (held store.old) result (held store.new) }
 {
     formatted?;
     link_cells(store)?;
@@ -23,7 +25,7 @@ fn link<D: Device>(
 
 // Formats a store and links its cells.
 pub(crate) fn make<D: Device>(device: D) -> (Store<D>, Result<(), LedgerFault>)
-    ensures makes { Makes (D.Device.disk device) result.1 (D.Device.disk result.0.device) (is_ok result.1) result.0.state }
+    ensures makes { Makes (D.Device.disk device) result.1 (on_store (is_ok result.1) (held result.0)) }
     ensures sound { Sound (is_ok result.1) result.0.state }
 {
     let (mut store, formatted) = Store::format(device);
@@ -47,7 +49,7 @@ fn check<D: Device>(
 
 // Opens a store, and sees whether it holds a ledger.
 pub(crate) fn open<D: Device>(device: D) -> (Store<D>, Result<(u64, usize), LedgerFault>)
-    ensures opens { OpensLedger (D.Device.disk device) result.1 (D.Device.disk result.0.device) (is_ok result.1) result.0.state }
+    ensures opens { Opens (D.Device.disk device) result.1 (on_store (is_ok result.1) (held result.0)) }
     ensures sound { Sound (is_ok result.1) result.0.state }
 {
     let (store, opened) = Store::open(device);

@@ -3,7 +3,8 @@ use Rattle.std.proofs.Common.{ℕ, List}
 use Rattle.book.specs.Rows.{drop_rows}
 use Rattle.book.specs.Edits.{drop_edits, dropped}
 use Rattle.book.proofs.Unlinking.{drop_holds}
-use Rattle.ledger.proofs.Booking.{Lawful, on_book, still_sound}
+use Rattle.transactions.specs.Held.{held}
+use Rattle.ledger.proofs.Booking.{Lawful, on_book, sound_after}
 use Rattle.ledger.proofs.changing.drop_tag.Goals as goal
 
 law : (id : List ℕ) → Lawful (λ b. drop_rows b id) (λ b. drop_edits b id) (dropped id)
@@ -11,16 +12,16 @@ law id f b = drop_holds f b id
 
 pub returns-clause-drops : goal.returns-clause-drops
 returns-clause-drops g c =
-    let s = c.args.store.now in
-    let t = c.change.new.store in
+    let h = held c.args.store.now in
+    let k = held c.change.new.store in
     let id = c.args.id.now in
-    on_book (λ b. drop_rows b id) (λ b. drop_edits b id) (dropped id) c.args.fit s.state t.state (g.D.Device.disk s.device) (g.D.Device.disk t.device) c.in_ok-look.field-0.now c.in_ok-plan.plan c.args.flush c.change.result
-    (law id) c.requires c.in_ok-look.ensures c.in_ok-plan.ensures c.change.ensures
+    on_book (λ b. drop_rows b id) (λ b. drop_edits b id) (dropped id) c.args.fit h k c.in_ok-look.field-0.now c.in_ok-plan.plan c.args.flush
+    (law id) c.requires c.in_ok-look.ensures c.in_ok-plan.ensures c.change.result c.change.ensures
 
 pub returns-clause-sound : goal.returns-clause-sound
 returns-clause-sound g c =
-    let s = c.args.store.now in
-    let t = c.change.new.store in
+    let h = held c.args.store.now in
+    let k = held c.change.new.store in
     let id = c.args.id.now in
-    still_sound (λ b. drop_rows b id) (λ b. drop_edits b id) (dropped id) c.args.fit s.state t.state (g.D.Device.disk s.device) (g.D.Device.disk t.device) c.in_ok-look.field-0.now c.in_ok-plan.plan c.args.flush c.change.result
-    (law id) c.requires c.in_ok-look.ensures c.in_ok-plan.ensures c.change.ensures
+    sound_after (λ b. drop_rows b id) (λ b. drop_edits b id) (dropped id) c.args.fit h k c.in_ok-look.field-0.now c.in_ok-plan.plan c.args.flush
+    (law id) c.requires c.in_ok-look.ensures c.in_ok-plan.ensures c.change.result c.change.ensures

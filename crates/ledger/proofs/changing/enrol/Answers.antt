@@ -3,7 +3,8 @@ use Rattle.std.proofs.Common.{ℕ, List, length, ◌≡◌, arith}
 use Rattle.book.specs.Rows.{enrol_rows}
 use Rattle.book.specs.Edits.{enrol_edits, enrolled}
 use Rattle.book.proofs.Changes.{enrol_holds}
-use Rattle.ledger.proofs.Booking.{Lawful, on_book, still_sound}
+use Rattle.transactions.specs.Held.{held}
+use Rattle.ledger.proofs.Booking.{Lawful, on_book, sound_after}
 use Rattle.ledger.proofs.changing.enrol.Goals as goal
 
 law : (id : List ℕ) (a : ℕ) → length id ≡ 8 → Lawful (λ b. enrol_rows b id a) (λ b. enrol_edits b id a) (enrolled id a)
@@ -11,20 +12,20 @@ law id a long f b = enrol_holds f b id a long
 
 pub returns-clause-enrols : goal.returns-clause-enrols
 returns-clause-enrols g c =
-    let s = c.args.store.now in
-    let t = c.change.new.store in
+    let h = held c.args.store.now in
+    let k = held c.change.new.store in
     let id = c.args.id.now in
     let a = c.args.account in
     let long : length id ≡ 8 = omega arith in
-    on_book (λ b. enrol_rows b id a) (λ b. enrol_edits b id a) (enrolled id a) c.args.fit s.state t.state (g.D.Device.disk s.device) (g.D.Device.disk t.device) c.in_ok-look.field-0.now c.in_ok-plan.plan c.args.flush c.change.result
-    (law id a long) c.requires c.in_ok-look.ensures c.in_ok-plan.ensures c.change.ensures
+    on_book (λ b. enrol_rows b id a) (λ b. enrol_edits b id a) (enrolled id a) c.args.fit h k c.in_ok-look.field-0.now c.in_ok-plan.plan c.args.flush
+    (law id a long) c.requires c.in_ok-look.ensures c.in_ok-plan.ensures c.change.result c.change.ensures
 
 pub returns-clause-sound : goal.returns-clause-sound
 returns-clause-sound g c =
-    let s = c.args.store.now in
-    let t = c.change.new.store in
+    let h = held c.args.store.now in
+    let k = held c.change.new.store in
     let id = c.args.id.now in
     let a = c.args.account in
     let long : length id ≡ 8 = omega arith in
-    still_sound (λ b. enrol_rows b id a) (λ b. enrol_edits b id a) (enrolled id a) c.args.fit s.state t.state (g.D.Device.disk s.device) (g.D.Device.disk t.device) c.in_ok-look.field-0.now c.in_ok-plan.plan c.args.flush c.change.result
-    (law id a long) c.requires c.in_ok-look.ensures c.in_ok-plan.ensures c.change.ensures
+    sound_after (λ b. enrol_rows b id a) (λ b. enrol_edits b id a) (enrolled id a) c.args.fit h k c.in_ok-look.field-0.now c.in_ok-plan.plan c.args.flush
+    (law id a long) c.requires c.in_ok-look.ensures c.in_ok-plan.ensures c.change.result c.change.ensures
