@@ -1,15 +1,14 @@
 -- A tag's bucket, and a balance that is just enough.
 use Rattle.std.specs.Prelude.{◌≡◌, ℕ, Bool, true, ◌≢◌, List, [], ◌∷◌, Some, None, Err, Result}
-use Rattle.device.specs.Disk.{Disk}
 use Rattle.transactions.specs.declared.fault.StoreFault.{StoreFault}
-use Rattle.transactions.specs.declared.state.State.{State}
 use Rattle.book.specs.declared.fault.LedgerFault.{LedgerFault}
 use Rattle.book.specs.declared.fault.LedgerFault.TheVariants.{Store, Unknown, Short}
 use Rattle.book.specs.Fault.{number}
 use Rattle.book.specs.Records.{bucket_of}
 use Rattle.book.specs.Book.{Book, IsAccount}
 use Rattle.book.specs.Rows.{first_fit, drop_rows, account_of}
-use Rattle.ledger.specs.Calls.{HoldsBook, Moves}
+use Rattle.ledger.specs.Sound.{Held, HoldsBook, is_on}
+use Rattle.ledger.specs.Calls.{Moves}
 
 -- The tag of bytes 1 to 8 belongs to bucket 4, and where it is unknown that is told.
 abbrev pub one_to_eight : List ℕ
@@ -20,9 +19,9 @@ pub record InBucketFour : Type 0 where
   pub told : (b : Book) → account_of b one_to_eight ≡ None → first_fit (drop_rows b one_to_eight) ≡ Some (Unknown 4)
 
 -- A ledger is on; the payer, who is not the payee, has a balance of 20, and a cell is free.
-pub record Twenty (s : State) (b : Book) (payer payee : ℕ) : Type 0 where
-  pub on : s.on ≡ true
-  pub holds : HoldsBook s b
+pub record Twenty (h : Held) (b : Book) (payer payee : ℕ) : Type 0 where
+  pub on : is_on h ≡ true
+  pub holds : HoldsBook h.store.state b
   pub payer_is : IsAccount payer
   pub payee_is : IsAccount payee
   pub two : payer ≢ payee
@@ -32,12 +31,12 @@ pub record Twenty (s : State) (b : Book) (payer payee : ℕ) : Type 0 where
 -- Paying 20 passes: only the store may refuse it.
 abbrev pub TwentyPass : Type 0
 TwentyPass =
-    (s s' : State) (b : Book) (d e : Disk) (payer payee : ℕ) (flush : Bool) (r : Result ℕ LedgerFault) → Twenty s b payer payee
-    → Moves payer payee 20 true s d flush r s' e → (f : LedgerFault) → r ≡ Err f → (g : StoreFault) × (f ≡ Store g)
+    (h k : Held) (b : Book) (payer payee : ℕ) (flush : Bool) (r : Result ℕ LedgerFault) → Twenty h b payer payee
+    → Moves payer payee 20 flush h r k → (f : LedgerFault) → r ≡ Err f → (g : StoreFault) × (f ≡ Store g)
 
 -- Paying 21 is refused by row 23, which tells the balance, and nothing moves.
 pub record TwentyOneShort : Type 0 where
   pub row : number (Short 20) ≡ 23
   pub refused :
-      (s s' : State) (b : Book) (d e : Disk) (payer payee : ℕ) (flush : Bool) (r : Result ℕ LedgerFault) → Twenty s b payer payee
-      → Moves payer payee 21 true s d flush r s' e → (r ≡ Err (Short 20)) × (s' ≡ s) × (e ≡ d)
+      (h k : Held) (b : Book) (payer payee : ℕ) (flush : Bool) (r : Result ℕ LedgerFault) → Twenty h b payer payee
+      → Moves payer payee 21 flush h r k → (r ≡ Err (Short 20)) × (k ≡ h)

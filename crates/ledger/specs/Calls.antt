@@ -24,69 +24,94 @@ pub record Asleep {A : Type 0} (h : Held) (r : Result A LedgerFault) (k : Held) 
   pub answer : r ≡ Err power_off
   pub same : k ≡ h
 
+-- A change of the book: its rows, what it writes, and the book after it.
+pub record Change : Type 0 where
+  pub rows : Book → List Row
+  pub edits : Book → List Edit
+  pub after : Book → Book
+
+abbrev pub issuing : ℕ → ℕ → Change
+issuing a amount = record { rows = λ b. issue_rows b a amount; edits = λ b. issue_edits b a amount; after = issued_to a amount }
+
+abbrev pub moving : ℕ → ℕ → ℕ → Change
+moving payer payee amount =
+    record { rows = λ b. move_rows b payer payee amount; edits = λ b. move_edits b payer payee amount; after = moved payer payee amount }
+
+abbrev pub visiting : List ℕ → ℕ → Change
+visiting id guard = record { rows = λ b. visit_rows b id guard; edits = λ b. visit_edits b id guard; after = visited id guard }
+
+abbrev pub enrolling : List ℕ → ℕ → Change
+enrolling id a = record { rows = λ b. enrol_rows b id a; edits = λ b. enrol_edits b id a; after = enrolled id a }
+
+abbrev pub dropping : List ℕ → Change
+dropping id = record { rows = λ b. drop_rows b id; edits = λ b. drop_edits b id; after = dropped id }
+
+abbrev pub collecting : ℕ → Change
+collecting a = record { rows = λ b. collect_rows b a; edits = λ b. collect_edits b a; after = collected a }
+
 -- A row of the book that the memory holds fits: it answers, and nothing moves.
-pub record Refused (rows : Book → List Row) (h : Held) (f : LedgerFault) (k : Held) : Type 0 where
+pub record Refused (c : Change) (h : Held) (f : LedgerFault) (k : Held) : Type 0 where
   pub on : is_on h ≡ true
-  pub fits : (b : Book) → HoldsBook h.store.state b → first_fit (rows b) ≡ Some f
+  pub fits : (b : Book) → HoldsBook h.store.state b → first_fit (c.rows b) ≡ Some f
   pub same : k ≡ h
 
 -- A change that was committed leaves the book after it. One that the store refused leaves the memory as it was; where
 -- power failed, the ledger is off.
-abbrev pub Leaves : (Book → Book) → Held → Result (ℕ × ℕ) StoreFault → Held → Type 0
-Leaves after h (Ok _) k = (b : Book) → HoldsBook h.store.state b → HoldsBook k.store.state (after b)
-Leaves after h (Err _) k = is_on k ≡ true → k.store.state.image.memory ≡ h.store.state.image.memory
+abbrev pub Leaves : Change → Held → Result (ℕ × ℕ) StoreFault → Held → Type 0
+Leaves c h (Ok _) k = (b : Book) → HoldsBook h.store.state b → HoldsBook k.store.state (c.after b)
+Leaves c h (Err _) k = is_on k ≡ true → k.store.state.image.memory ≡ h.store.state.image.memory
 
 -- No row fits: the book's edits are made and committed by one transaction of the store, which answers so.
-pub record Made (rows : Book → List Row) (edits : Book → List Edit) (after : Book → Book) (flush : Bool) (h : Held) (x : Result (ℕ × ℕ) StoreFault) (k : Held) : Type 0 where
+pub record Made (c : Change) (flush : Bool) (h : Held) (x : Result (ℕ × ℕ) StoreFault) (k : Held) : Type 0 where
   pub on : is_on h ≡ true
-  pub fits : (b : Book) → HoldsBook h.store.state b → first_fit (rows b) ≡ None
+  pub fits : (b : Book) → HoldsBook h.store.state b → first_fit (c.rows b) ≡ None
   pub made : List Edit
-  pub are : (b : Book) → HoldsBook h.store.state b → made ≡ edits b
+  pub are : (b : Book) → HoldsBook h.store.state b → made ≡ c.edits b
   pub changes : Changes h.store made flush x k.store
-  pub leaves : Leaves after h x k
+  pub leaves : Leaves c h x k
   pub fit : k.fit ≡ h.fit
 
--- A change answers its ordinal, or the store's refusal.
+-- A changing call, by its change, and by what it answers where the store answers so.
+abbrev pub OnBook : {A : Type 0} → Change → (Result (ℕ × ℕ) StoreFault → Result A LedgerFault → Type 0) → Bool → Held → Result A LedgerFault → Held → Type 0
+OnBook c answers flush h r k =
+    Asleep h r k
+    ⊎ ((f : LedgerFault) × (r ≡ Err f) × Refused c h f k)
+    ⊎ ((x : Result (ℕ × ℕ) StoreFault) × answers x r × Made c flush h x k)
+
+-- The ordinal, or the store's refusal.
 abbrev pub by_ordinal : Result (ℕ × ℕ) StoreFault → Result ℕ LedgerFault
 by_ordinal (Ok x) = Ok x.0
 by_ordinal (Err f) = Err (Store f)
 
--- A changing call, by the rows, the edits and the book after it.
-abbrev pub OnBook : (Book → List Row) → (Book → List Edit) → (Book → Book) → Bool → Held → Result ℕ LedgerFault → Held → Type 0
-OnBook rows edits after flush h r k =
-    Asleep h r k
-    ⊎ ((f : LedgerFault) × (r ≡ Err f) × Refused rows h f k)
-    ⊎ ((x : Result (ℕ × ℕ) StoreFault) × (r ≡ by_ordinal x) × Made rows edits after flush h x k)
+abbrev pub ByOrdinal : Result (ℕ × ℕ) StoreFault → Result ℕ LedgerFault → Type 0
+ByOrdinal x r = r ≡ by_ordinal x
 
 abbrev pub Issues : ℕ → ℕ → Bool → Held → Result ℕ LedgerFault → Held → Type 0
-Issues a amount = OnBook (λ b. issue_rows b a amount) (λ b. issue_edits b a amount) (issued_to a amount)
+Issues a amount = OnBook (issuing a amount) ByOrdinal
 
 abbrev pub Moves : ℕ → ℕ → ℕ → Bool → Held → Result ℕ LedgerFault → Held → Type 0
-Moves payer payee amount = OnBook (λ b. move_rows b payer payee amount) (λ b. move_edits b payer payee amount) (moved payer payee amount)
+Moves payer payee amount = OnBook (moving payer payee amount) ByOrdinal
 
 abbrev pub Visits : List ℕ → ℕ → Bool → Held → Result ℕ LedgerFault → Held → Type 0
-Visits id guard = OnBook (λ b. visit_rows b id guard) (λ b. visit_edits b id guard) (visited id guard)
+Visits id guard = OnBook (visiting id guard) ByOrdinal
 
 abbrev pub Enrols : List ℕ → ℕ → Bool → Held → Result ℕ LedgerFault → Held → Type 0
-Enrols id a = OnBook (λ b. enrol_rows b id a) (λ b. enrol_edits b id a) (enrolled id a)
+Enrols id a = OnBook (enrolling id a) ByOrdinal
 
 abbrev pub Drops : List ℕ → Bool → Held → Result ℕ LedgerFault → Held → Type 0
-Drops id = OnBook (λ b. drop_rows b id) (λ b. drop_edits b id) (dropped id)
+Drops id = OnBook (dropping id) ByOrdinal
 
 -- Collect answers the entry that it took off too: the front one of the account.
 abbrev pub with_entry : Entry → Result (ℕ × ℕ) StoreFault → Result (ℕ × Entry) LedgerFault
 with_entry entry (Ok x) = Ok (x.0, entry)
 with_entry entry (Err f) = Err (Store f)
 
-abbrev pub IsFront : ℕ → Held → Entry → Type 0
-IsFront a h entry = (b : Book) → HoldsBook h.store.state b → front_of (b.entries a) ≡ Some entry
+abbrev pub WithFront : ℕ → Held → Result (ℕ × ℕ) StoreFault → Result (ℕ × Entry) LedgerFault → Type 0
+WithFront a h x r =
+    (entry : Entry) × (r ≡ with_entry entry x) × ((b : Book) → HoldsBook h.store.state b → front_of (b.entries a) ≡ Some entry)
 
 abbrev pub Collects : ℕ → Bool → Held → Result (ℕ × Entry) LedgerFault → Held → Type 0
-Collects a flush h r k =
-    Asleep h r k
-    ⊎ ((f : LedgerFault) × (r ≡ Err f) × Refused (λ b. collect_rows b a) h f k)
-    ⊎ ((x : Result (ℕ × ℕ) StoreFault) × (entry : Entry) × (r ≡ with_entry entry x) × IsFront a h entry
-    × Made (λ b. collect_rows b a) (λ b. collect_edits b a) (collected a) flush h x k)
+Collects a flush h r k = OnBook (collecting a) (WithFront a h) flush h r k
 
 -- Finding a tag answers its account, or nothing; nothing moves.
 abbrev pub Finds : List ℕ → Held → Result (Option ℕ) LedgerFault → Type 0

@@ -1,13 +1,12 @@
 -- Issuing takes one book to the next.
 use Rattle.std.proofs.Common.{ℕ}
-use Rattle.book.specs.Rows.{issue_rows}
-use Rattle.book.specs.Edits.{issue_edits, issued_to}
 use Rattle.book.proofs.Changes.{issue_holds}
 use Rattle.transactions.specs.Held.{held}
+use Rattle.ledger.specs.Calls.{issuing}
 use Rattle.ledger.proofs.Booking.{Lawful, on_book, sound_after}
 use Rattle.ledger.proofs.changing.issue.Goals as goal
 
-law : (a : ℕ) (n : ℕ) → Lawful (λ b. issue_rows b a n) (λ b. issue_edits b a n) (issued_to a n)
+law : (a : ℕ) (n : ℕ) → Lawful (issuing a n)
 law a n f b = issue_holds f b a n
 
 pub returns-clause-issues : goal.returns-clause-issues
@@ -16,7 +15,7 @@ returns-clause-issues g c =
     let k = held c.change.new.store in
     let a = c.args.account in
     let n = c.args.amount in
-    on_book (λ b. issue_rows b a n) (λ b. issue_edits b a n) (issued_to a n) c.args.fit h k c.in_ok-look.field-0.now c.in_ok-plan.plan c.args.flush
+    on_book (issuing a n) c.args.fit h k c.in_ok-look.field-0.now c.in_ok-plan.plan c.args.flush
     (law a n) c.requires c.in_ok-look.ensures c.in_ok-plan.ensures c.change.result c.change.ensures
 
 pub returns-clause-sound : goal.returns-clause-sound
@@ -25,5 +24,5 @@ returns-clause-sound g c =
     let k = held c.change.new.store in
     let a = c.args.account in
     let n = c.args.amount in
-    sound_after (λ b. issue_rows b a n) (λ b. issue_edits b a n) (issued_to a n) c.args.fit h k c.in_ok-look.field-0.now c.in_ok-plan.plan c.args.flush
+    sound_after (issuing a n) c.args.fit h k c.in_ok-look.field-0.now c.in_ok-plan.plan c.args.flush
     (law a n) c.requires c.in_ok-look.ensures c.in_ok-plan.ensures c.change.result c.change.ensures
