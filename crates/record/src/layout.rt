@@ -1,5 +1,5 @@
 // Laying a record out in the bytes of a sector, from the front to the end.
-ghost use Rattle.std.specs.Prelude.{◌≡◌, ◌+◌, ◌-◌, ◌≤◌, [], ◌++◌, length, take, replicate};
+ghost use Rattle.std.specs.Prelude.{◌≡◌, ◌+◌, ◌-◌, ◌≤◌, [], ◌++◌, length, take, drop, replicate};
 ghost use Rattle.record.specs.Entry.{laid_out, label as label_bytes};
 ghost use Rattle.record.specs.Fields.{digits};
 ghost use Rattle.record.specs.Label.{spelled};
@@ -12,7 +12,8 @@ use device::SECTOR;
 #[tactic(auto, using(std::proofs::lemmas::Slice::overwrites))]
 fn put(sector: &mut [u8; SECTOR], at: usize, bytes: &[u8])
     requires { at + length bytes.now ≤ SECTOR }
-    ensures { take (at + length bytes.now) sector.new ≡ take at sector.old ++ bytes.now }
+    ensures front { take (at + length bytes.now) sector.new ≡ take at sector.old ++ bytes.now }
+    ensures rest { drop (at + length bytes.now) sector.new ≡ drop (at + length bytes.now) sector.old }
 {
     sector[at..at + bytes.len()].copy_from_slice(bytes);
 }
@@ -24,6 +25,16 @@ fn clear(sector: &mut [u8; SECTOR], at: usize)
     ensures { sector.new ≡ take at sector.old ++ replicate (SECTOR - at) 0 }
 {
     sector[at..].fill(0);
+}
+
+// Puts a record's own bytes behind the label, and zeros behind them. All the room for them is cleared first: a number
+// of bytes that is fixed costs next to nothing, and a rest of any length a call.
+fn put_data(sector: &mut [u8; SECTOR], bytes: &[u8])
+    requires { length bytes.now ≤ 96 }
+    ensures { sector.new ≡ take 32 sector.old ++ bytes.now ++ replicate (96 - length bytes.now) 0 }
+{
+    clear(sector, DATA);
+    put(sector, DATA, bytes);
 }
 
 #[tactic(auto, using(crate::proofs::Numbers::bytes_8))]
@@ -54,6 +65,5 @@ pub(crate) fn lay_out(sector: &mut [u8; SECTOR], label: Label, bytes: &[u8])
     ensures { sector.new ≡ laid_out (spelled label bytes.now) }
 {
     put_label(sector, label);
-    put(sector, DATA, bytes);
-    clear(sector, DATA + bytes.len());
+    put_data(sector, bytes);
 }
