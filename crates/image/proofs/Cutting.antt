@@ -1,15 +1,14 @@
 -- The pieces of runs: they fit pages, are few, and have the declared bytes.
-use Rattle.std.proofs.Common.{◌≡◌, ℕ, zero, suc, ◌+◌, ◌-◌, ◌*◌, ◌/◌, ◌<◌, ◌≤◌, min, cond, List, [], ◌∷◌, ◌++◌, length, get_or, take, drop, sym, refl, ap, ◌∙◌, subst, ⊎_elim, arith, length-append}
-use Rattle.std.proofs.lemmas.List.{append_assoc}
+use Rattle.std.proofs.Common.{◌≡◌, ℕ, zero, suc, ◌+◌, ◌-◌, ◌*◌, ◌/◌, ◌<◌, ◌≤◌, min, cond, List, [], ◌∷◌, ◌++◌, length, get_or, take, drop, false, sym, refl, ap, ◌∙◌, subst, ⊎_elim, arith, length-append}
+use Rattle.std.proofs.lemmas.List.{drop_more}
 use Rattle.std.proofs.lemmas.Bool.{cases_lt, lt-ltb, le-ltb}
 use Rattle.journal.specs.Memory.{overlaid}
 use Rattle.image.specs.declared.run.Run.{Run}
 use Rattle.image.specs.declared.run.Piece.{Piece}
-use Rattle.image.specs.declared.runs.Runs.{Runs}
 use Rattle.image.specs.Runs.{run, is_declared, Apart, Inside}
 use Rattle.image.specs.Cut.{piece, end, cut, cut_runs, laid, AllPieces}
-use Rattle.image.specs.Calls.{listed}
-use Rattle.image.proofs.Facts.{within_run, below_run, above_run, apart_out, inside_out}
+use Rattle.image.specs.Calls.{none}
+use Rattle.image.proofs.Facts.{within_run, below_run, above_run}
 use Rattle.image.proofs.Copying.{over, over_declared, overlaid_part}
 
 pub cut_some : (n f t : ℕ) → f < t → cut (suc n) f t ≡ piece f (end f t - f) ∷ cut n (end f t) t
@@ -80,6 +79,19 @@ cut_length (suc n) f t h =
     (λ (l : end f t < t). omega (arith, cut_length n (end f t) t l))
     (λ (l : t ≤ end f t). omega (arith, ap length (cut_none n (end f t) t l)))
     (cases_lt (end f t) t)
+
+-- as many as there are pages from its first to its last
+pub cut_count : (n f t : ℕ) → f < t → Enough n f t → length (cut n f t) + f / 96 ≡ (t - 1) / 96 + 1
+cut_count zero f t h k = let e = k h in absurd (omega arith)
+cut_count (suc n) f t h k =
+    let e = ap length (cut_some n f t h) in
+    ⊎_elim
+    (λ (l : end f t < t). omega (arith, cut_count n (end f t) t l (enough_rest n f t h k)))
+    (λ (l : t ≤ end f t). omega (arith, ap length (cut_none n (end f t) t l)))
+    (cases_lt (end f t) t)
+
+pub run_count : (f t : ℕ) → f < t → t ≤ 6144 → length (cut 64 f t) ≡ (t - 1) / 96 - f / 96 + 1
+run_count f t h k = omega (arith, cut_count 64 f t h (λ l. omega arith))
 
 runs_length : (floor : ℕ) (rs : List Run) → Apart floor rs → Inside rs → length (cut_runs rs) + min (floor / 96) 63 ≤ length rs + 63
 runs_length floor [] a h = omega arith
@@ -158,15 +170,28 @@ runs_lay (r ∷ rs) m (h, rest) l i v =
     ∙ ap (λ (w : ℕ). laid (cut_runs rs) m i w) (laid_cut 64 r.from r.to m i v (λ s. omega arith) (omega arith))
     ∙ runs_lay rs m rest l i (over r m i v) ∙ over_declared r rs m i v
 
--- the runs in use have few pieces, so there is room for those of each run
-pub room_left : (s : Runs) (out ps rest : List Piece) → length (listed s) ≤ 16 → out ++ (ps ++ rest) ≡ cut_runs (listed s) → length out + length ps ≤ 79
-room_left s out ps rest h was =
-    let few = runs_few (listed s) (apart_out 0 (listed s) s.apart) (inside_out (listed s) s.inside) h in
-    omega (arith, simp length-append at (ap length was))
+-- a piece is cut off
+pub cut_off : (f t e : ℕ) (rest : List Piece) → f < t → t ≤ 6144 → e ≡ end f t → cut 64 f t ++ rest ≡ piece f (e - f) ∷ (cut 64 e t ++ rest)
+cut_off f t e rest h k same =
+    ap (λ (ps : List Piece). ps ++ rest) (cut_next f t h k) ∙ ap (λ (x : ℕ). piece f (x - f) ∷ (cut 64 x t ++ rest)) (sym same)
 
--- one piece more is put in
-pub next_piece : (f t e : ℕ) (out new ys : List Piece) → f < t → t ≤ 6144 → e ≡ end f t → new ≡ out ++ piece f (e - f) ∷ []
-    → out ++ cut 64 f t ≡ ys → new ++ cut 64 e t ≡ ys
-next_piece f t e out new ys h k same made was =
-    ap (λ (ps : List Piece). ps ++ cut 64 e t) made ∙ append_assoc out (piece f (e - f) ∷ []) (cut 64 e t)
-    ∙ ap (λ (x : ℕ). out ++ piece f (x - f) ∷ cut 64 x t) same ∙ ap (λ (ps : List Piece). out ++ ps) (sym (cut_next f t h k)) ∙ was
+-- once a run is cut up, what is left is of the others
+pub cut_up : (f t : ℕ) (rest : List Piece) → t ≤ f → cut 64 f t ++ rest ≡ rest
+cut_up f t rest h = ap (λ (ps : List Piece). ps ++ rest) (cut_none 64 f t h)
+
+-- there is none left only where no run is
+pub none_left : (f t : ℕ) (rs : List Run) → t ≤ f → Apart 0 rs → none (cut 64 f t ++ cut_runs rs) ≡ none rs
+none_left f t [] h apart = ap none (cut_up f t [] h)
+none_left f t (r ∷ rs) h (low, some, apart) =
+    ap none (cut_up f t (cut 64 r.from r.to ++ cut_runs rs) h) ∙ ap (λ (ps : List Piece). none (ps ++ cut_runs rs)) (cut_some 63 r.from r.to some)
+
+pub some_left : (f t : ℕ) (rs : List Run) → f < t → none (cut 64 f t ++ cut_runs rs) ≡ false
+some_left f t rs h = ap (λ (ps : List Piece). none (ps ++ cut_runs rs)) (cut_some 63 f t h)
+
+-- the pieces of one run more are counted
+pub counted : (k : ℕ) (xs : List Run) (i count n : ℕ) → i < length xs → n ≡ length (cut 64 (get_or xs i (run 0 0)).from (get_or xs i (run 0 0)).to)
+    → count + length (cut_runs (drop i xs)) ≡ k → count + n + length (cut_runs (drop (i + 1) xs)) ≡ k
+counted k xs i count n h is was =
+    let r = get_or xs i (run 0 0) in
+    let more = ap (λ (rs : List Run). length (cut_runs rs)) (drop_more xs i (run 0 0) h) in
+    omega (arith, length-append (cut 64 r.from r.to) (cut_runs (drop (i + 1) xs)))

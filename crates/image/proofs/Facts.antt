@@ -26,6 +26,11 @@ pub inside_out : (rs : List Run) → ∥ Inside rs ∥₁ → Inside rs
 inside_out [] h = tt
 inside_out (r ∷ rs) h = (le_out r.to 6144 (∥∥₁_map h (λ a. a.0)), inside_out rs (∥∥₁_map h (λ a. a.1)))
 
+-- runs that lie above a bound lie above a lower one
+pub apart_lower : (x y : ℕ) (rs : List Run) → x ≤ y → Apart y rs → Apart x rs
+apart_lower x y [] h apart = tt
+apart_lower x y (r ∷ rs) h (a, b, rest) = (omega arith, b, rest)
+
 -- a piece fits its page, and each of many does
 fits_out : (p : Piece) → ∥ FitsPage p ∥₁ → FitsPage p
 fits_out p h = record {

@@ -1,9 +1,12 @@
 -- What is declared once a stretch is joined in, and that runs stay apart.
-use Rattle.std.proofs.Common.{◌≡◌, ℕ, ◌+◌, ◌<◌, ◌≤◌, min, max, ◌⊎◌, List, [], ◌∷◌, ◌++◌, length, sym, refl, ap, ◌∙◌, subst, inl, inr, ⊎_elim, arith}
-use Rattle.std.proofs.lemmas.List.{append_assoc}
+use Rattle.std.proofs.Common.{◌≡◌, ℕ, zero, suc, ◌+◌, ◌<◌, ◌≤◌, min, max, Bool, true, false, ◌⊎◌, List, [], ◌∷◌, ◌++◌, length, get_or, take, drop, insert, remove, sym, refl, ap, ap₂, ◌∙◌, subst, inl, inr, ⊎_elim, arith, length-append, length-drop, length-take-le}
+use Rattle.std.proofs.lemmas.List.{drop_more, drop_all, drop-drop, drop_at, take_at}
 use Rattle.std.proofs.lemmas.Bool.{cases_lt, lt-ltb, le-ltb}
 use Rattle.image.specs.declared.run.Run.{Run}
 use Rattle.image.specs.Runs.{run, Declared, Apart, Inside, joined}
+use Rattle.image.specs.declared.runs.Runs.{Runs}
+use Rattle.image.specs.Calls.{listed, JoinedIn, Below, Meets}
+use Rattle.image.proofs.Facts.{apart_lower, apart_after, some_at}
 
 -- the three ways a stretch meets the first run
 before : (f t : ℕ) (r : Run) (rs : List Run) → t < r.from → joined f t (r ∷ rs) ≡ run f t ∷ r ∷ rs
@@ -26,13 +29,9 @@ joined_apart floor f t (r ∷ rs) low some (a, b, rest) =
     (λ k. subst (λ (xs : List Run). Apart floor xs) (sym (after f t r rs h k)) (a, b, joined_apart (r.to + 1) f t rs (omega arith) some rest))
     (λ k.
     subst (λ (xs : List Run). Apart floor xs) (sym (meets f t r rs h k))
-    (joined_apart floor (min f r.from) (max t r.to) rs (omega arith) (omega arith) (lower floor (r.to + 1) rs (omega arith) rest)))
+    (joined_apart floor (min f r.from) (max t r.to) rs (omega arith) (omega arith) (apart_lower floor (r.to + 1) rs (omega arith) rest)))
     (cases_lt r.to f))
     (cases_lt t r.from)
-  where
-    lower : (x y : ℕ) (rs : List Run) → x ≤ y → Apart y rs → Apart x rs
-    lower x y [] h apart = tt
-    lower x y (r ∷ rs) h (a, b, rest) = (omega arith, b, rest)
 
 -- the bytes of the new stretch, or those declared before
 abbrev pub Either : ℕ → ℕ → List Run → ℕ → Type 0
@@ -115,21 +114,82 @@ joined_low : (f t : ℕ) (rs : List Run) → Apart (t + 1) rs → joined f t rs 
 joined_low f t [] h = refl
 joined_low f t (r ∷ rs) (h, some, rest) = before f t r rs (omega arith)
 
--- the steps of a loop over runs, with a stretch still to be joined into those left
-pub puts_stretch : (f t : ℕ) (out new rest ys : List Run) (r : Run) → new ≡ out ++ run f t ∷ [] → t < r.from → Apart (r.to + 1) rest
-    → out ++ joined f t (r ∷ rest) ≡ ys → new ++ joined r.from r.to rest ≡ ys
-puts_stretch f t out new rest ys r made h apart was =
-    ap (λ (zs : List Run). zs ++ joined r.from r.to rest) made
-    ∙ append_assoc out (run f t ∷ []) (joined r.from r.to rest)
-    ∙ ap (λ (zs : List Run). out ++ run f t ∷ zs) (joined_low r.from r.to rest apart)
-    ∙ ap (λ (zs : List Run). out ++ zs) (sym (before f t r rest h)) ∙ was
+-- behind runs that end below the stretch
+joined_behind : (floor f t : ℕ) (rs : List Run) (k : ℕ) → f < t → Apart floor rs → k ≤ length rs
+    → ((i : ℕ) → i < k → (get_or rs i (run 0 0)).to < f) → joined f t rs ≡ take k rs ++ joined f t (drop k rs)
+joined_behind floor f t rs zero some apart h below = refl
+joined_behind floor f t [] (suc k) some apart h below = absurd (omega arith)
+joined_behind floor f t (r ∷ rs) (suc k) some (a, b, rest) h below =
+    let here : r.to < f = below 0 (omega arith) in
+    after f t r rs (omega arith) here
+    ∙ ap (λ (xs : List Run). r ∷ xs) (joined_behind (r.to + 1) f t rs k some rest (omega arith) (λ i l. below (suc i) (omega arith)))
 
-pub puts_run : (f t : ℕ) (out new rest ys : List Run) (r : Run) → new ≡ out ++ r ∷ [] → r.from ≤ t → r.to < f
-    → out ++ joined f t (r ∷ rest) ≡ ys → new ++ joined f t rest ≡ ys
-puts_run f t out new rest ys r made h k was =
-    ap (λ (zs : List Run). zs ++ joined f t rest) made ∙ append_assoc out (r ∷ []) (joined f t rest)
-    ∙ ap (λ (zs : List Run). out ++ zs) (sym (after f t r rest h k)) ∙ was
+pub joined_below : (f t : ℕ) (rs : List Run) (k : ℕ) → f < t → Apart 0 rs → Below f rs k → joined f t rs ≡ take k rs ++ joined f t (drop k rs)
+joined_below f t rs k some apart b = joined_behind 0 f t rs k some apart b.count b.below
 
-pub takes_run : (f t g u : ℕ) (out rest ys : List Run) (r : Run) → g ≡ min f r.from → u ≡ max t r.to → r.from ≤ t → f ≤ r.to
-    → out ++ joined f t (r ∷ rest) ≡ ys → out ++ joined g u rest ≡ ys
-takes_run f t g u out rest ys r low high h k was = let e = meets f t r rest h k in cc
+-- the runs that are met give way to one
+pub joined_whole : (f t : ℕ) (rs : List Run) (k n : ℕ) (r : Run) → f < t → Apart 0 rs → Below f rs k → Meets f t rs k n r
+    → joined f t rs ≡ take k rs ++ r ∷ drop n rs
+joined_whole f t rs k n r some apart b m = joined_below f t rs k some apart b ∙ ap (λ (xs : List Run). take k rs ++ xs) m.joins
+
+-- the stretch has met one run more
+pub meets_more : (f t g u k : ℕ) (rs ys : List Run) → Apart 0 rs → k < length rs → (get_or rs k (run 0 0)).from ≤ t → f ≤ (get_or rs k (run 0 0)).to
+    → g ≡ min f (get_or rs k (run 0 0)).from → u ≡ max t (get_or rs k (run 0 0)).to → ys ≡ joined f t (drop k rs) → ys ≡ joined g u (drop (k + 1) rs)
+meets_more f t g u k rs ys apart h low high left right was =
+    was ∙ ap (λ (xs : List Run). joined f t xs) (drop_more rs k (run 0 0) h)
+    ∙ meets f t (get_or rs k (run 0 0)) (drop (k + 1) rs) low high
+    ∙ ap (λ (x : ℕ). joined x (max t (get_or rs k (run 0 0)).to) (drop (k + 1) rs)) (sym left)
+    ∙ ap (λ (x : ℕ). joined g x (drop (k + 1) rs)) (sym right)
+
+-- the run after lies above it
+pub next_above : (rs : List Run) (k g : ℕ) → Apart 0 rs → k + 1 < length rs → g ≤ (get_or rs k (run 0 0)).from → g ≤ (get_or rs (k + 1) (run 0 0)).to
+next_above rs k g apart h low =
+    let here = some_at 0 rs k (run 0 0) apart (omega arith) in
+    let rest = apart_after 0 rs k (run 0 0) apart (omega arith) in
+    let more = drop_more rs (k + 1) (run 0 0) h in
+    let first = subst (λ (xs : List Run). Apart ((get_or rs k (run 0 0)).to + 1) xs) more rest in
+    omega (arith, first.0, first.1)
+
+-- the stretch meets no further run
+pub meets_end : (f t k : ℕ) (rs ys : List Run) → Apart 0 rs → (k < length rs → t < (get_or rs k (run 0 0)).from) → ys ≡ joined f t (drop k rs) → ys ≡ run f t ∷ drop k rs
+meets_end f t k rs ys apart above was =
+    ⊎_elim
+    (λ (h : k < length rs).
+    let more = drop_more rs k (run 0 0) h in
+    was ∙ ap (λ (xs : List Run). joined f t xs) more
+    ∙ before f t (get_or rs k (run 0 0)) (drop (k + 1) rs) (above h) ∙ ap (λ (xs : List Run). run f t ∷ xs) (sym more))
+    (λ (h : length rs ≤ k). let none = drop_all k rs h in was ∙ ap (λ (xs : List Run). joined f t xs) none ∙ ap (λ (xs : List Run). run f t ∷ xs) (sym none))
+    (cases_lt k (length rs))
+
+-- a list without its part from f to i
+cut_out : (f i : ℕ) (old now : List Run) → f ≤ length old → now ≡ take f old ++ drop i old → (take f now ≡ take f old) × (drop f now ≡ drop i old)
+cut_out f i old now h was =
+    let short = length-take-le f old h in
+    (ap (take f) was ∙ take_at (take f old) (drop i old) f short, ap (drop f) was ∙ drop_at (take f old) (drop i old) f short)
+
+-- one run more gives way
+pub gives_way : (f i : ℕ) (old now new : List Run) → f ≤ length old → now ≡ take f old ++ drop i old → new ≡ remove now f → new ≡ take f old ++ drop (i + 1) old
+gives_way f i old now new h was made =
+    let parts = cut_out f i old now h was in
+    let past : f + 1 ≡ suc f = omega arith in
+    made
+    ∙ ap₂ (λ (a b : List Run). a ++ b) parts.0
+    (ap (λ (n : ℕ). drop n now) (sym past) ∙ sym (drop-drop 1 f now) ∙ ap (drop 1) parts.1 ∙ drop-drop 1 i old)
+
+-- and another takes the place of all of them
+pub takes_place : (f i : ℕ) (r : Run) (old now new : List Run) → f ≤ length old → now ≡ take f old ++ drop i old → new ≡ insert now f r → new ≡ take f old ++ r ∷ drop i old
+takes_place f i r old now new h was made =
+    let parts = cut_out f i old now h was in made ∙ ap₂ (λ (a b : List Run). a ++ r ∷ b) parts.0 parts.1
+
+-- where the stretch meets none of sixteen runs, it makes them too many
+pub too_many : (f t : ℕ) (rs : List Run) (k n : ℕ) (r : Run) → f < t → Apart 0 rs → Below f rs k → Meets f t rs k n r → k ≡ n → length rs ≡ 16
+    → 16 < length (joined f t rs)
+too_many f t rs k n r some apart b m same full =
+    let e = ap length (joined_whole f t rs k n r some apart b m) in
+    let l = length-append (take k rs) (r ∷ drop n rs) in
+    omega (arith, length-take-le k rs b.count, length-drop n rs, b.count)
+
+-- what was declared still is
+pub still_declared : (f t : ℕ) (x : Runs) (b : Bool) (y : Runs) → JoinedIn f t x b y → (i : ℕ) → Declared (listed x) i → Declared (listed y) i
+still_declared f t x true y e i h = subst (λ (rs : List Run). Declared rs i) (sym e) (joined_covers f t (listed x) i (inr h))
+still_declared f t x false y (many, same) i h = subst (λ (z : Runs). Declared (listed z) i) (sym same) h

@@ -1,12 +1,16 @@
 -- What the calls on the memory do.
-use Rattle.std.specs.Prelude.{◌≡◌, ℕ, ◌+◌, ◌<◌, ◌≤◌, Bool, true, false, List, [], ◌∷◌, length, take, drop, Some, None, Ok, Err, Option, Result, slice_index}
+use Rattle.std.specs.Prelude.{◌≡◌, ℕ, ◌+◌, ◌<◌, ◌≤◌, Bool, true, false, List, [], ◌∷◌, ◌++◌, length, take, drop, Some, None, Ok, Err, Option, Result, slice_index, slice_index_or}
+use Rattle.std.specs.Borrow.{Bor}
 use Rattle.journal.specs.Memory.{overlaid}
 use Rattle.image.specs.declared.run.Run.{Run}
 use Rattle.image.specs.declared.run.ImageFault.{ImageFault}
 use Rattle.image.specs.declared.run.ImageFault.TheVariants.{Range, Runs as Too-many, Undeclared}
+use Rattle.image.specs.declared.run.Piece.{Piece}
 use Rattle.image.specs.declared.runs.Runs.{Runs}
+use Rattle.image.specs.declared.runs.Pieces.{Pieces}
 use Rattle.image.specs.declared.state.Image.{Image}
-use Rattle.image.specs.Runs.{Declared, joined}
+use Rattle.image.specs.Runs.{run, Declared, joined}
+use Rattle.image.specs.Cut.{cut, cut_runs}
 use Rattle.image.specs.Stretch.{InRange, OutOfRange}
 
 abbrev pub listed : Runs → List Run
@@ -16,14 +20,41 @@ listed x = x.items.items
 abbrev pub declared : Image → List Run
 declared x = listed x.runs
 
-abbrev pub none : List Run → Bool
+-- There are none.
+abbrev pub none : {A : Type 0} → List A → Bool
 none [] = true
-none (r ∷ rs) = false
+none (x ∷ xs) = false
 
--- A stretch joined in, or too many runs.
-abbrev pub With : ℕ → ℕ → List Run → Option Runs → Type 0
-With f t rs (Some x) = listed x ≡ joined f t rs
-With f t rs None = 16 < length (joined f t rs)
+-- A stretch is joined in, or there are too many runs, and then nothing changes.
+abbrev pub JoinedIn : ℕ → ℕ → Runs → Bool → Runs → Type 0
+JoinedIn f t x true y = listed y ≡ joined f t (listed x)
+JoinedIn f t x false y = (16 < length (joined f t (listed x))) × (y ≡ x)
+
+-- How many runs end below a stretch that begins at f: it goes in behind these.
+pub record Below (f : ℕ) (rs : List Run) (k : ℕ) : Type 0 where
+  pub count : k ≤ length rs
+  pub below : (i : ℕ) → i < k → (slice_index_or rs i (run 0 0)).to < f
+  pub next : k < length rs → f ≤ (slice_index_or rs k (run 0 0)).to
+
+-- From the k-th run on, the stretch from f to t meets the runs up to the n-th, and with them is the run r.
+pub record Meets (f t : ℕ) (rs : List Run) (k n : ℕ) (r : Run) : Type 0 where
+  pub from : k ≤ n
+  pub to : n ≤ length rs
+  pub joins : joined f t (drop k rs) ≡ r ∷ drop n rs
+
+-- The pieces that are left.
+abbrev pub left : Pieces → List Piece
+left p = cut 64 p.from p.to ++ cut_runs p.runs.now
+
+-- The first run and those after it, or there is none.
+abbrev pub FirstRun : List Run → Option (Run × Bor (List Run)) → Type 0
+FirstRun rs (Some x) = rs ≡ x.0 ∷ x.1.now
+FirstRun rs None = rs ≡ []
+
+-- A run is being cut up, or no piece is left.
+abbrev pub Cutting : Bool → Pieces → Type 0
+Cutting true p = p.from < p.to
+Cutting false p = left p ≡ []
 
 -- The first byte from `start` on that is not declared is b.
 pub record Reached (start : ℕ) (rs : List Run) (b : ℕ) : Type 0 where

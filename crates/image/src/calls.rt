@@ -1,7 +1,7 @@
 // What is done with the memory.
-ghost use Rattle.image.specs.Calls.{declared, none, Declares, Writes, Reads, Restored, Kept};
+ghost use Rattle.image.specs.Calls.{declared, left, none, Declares, Writes, Reads, Restored, Kept};
 ghost use Rattle.image.specs.Cut.{cut_runs};
-ghost use Rattle.std.specs.Prelude.{◌≡◌, [], replicate};
+ghost use Rattle.std.specs.Prelude.{◌≡◌, ◌≤◌, [], length, replicate};
 
 use crate::run::{ImageFault, Run};
 use crate::runs::{Pieces, Runs};
@@ -43,7 +43,9 @@ impl Image {
         ensures { Declares start size self.old result self.new }
     {
         let stretch = Run::within(start, size)?;
-        self.runs = self.runs.with(stretch).ok_or(ImageFault::Runs(start))?;
+        if !self.runs.join(stretch) {
+            return Err(ImageFault::Runs(start));
+        }
         Ok(())
     }
 
@@ -74,7 +76,7 @@ impl Image {
         ensures { Restored self.old self.new }
     {
         self.runs.copy(&self.before, &mut self.memory);
-        self.runs = Runs::new();
+        self.runs.clear();
     }
 
     // Keeps the memory as it is, with nothing declared.
@@ -82,12 +84,21 @@ impl Image {
         ensures { Kept self.old self.new }
     {
         self.runs.copy(&self.memory, &mut self.before);
-        self.runs = Runs::new();
+        self.runs.clear();
+    }
+
+    // How many pieces the declared runs are cut into.
+    pub fn piece_count(&self) -> usize
+        ensures count { result ≡ length (cut_runs (declared self.now)) }
+        ensures few { result ≤ 79 }
+    {
+        self.runs.piece_count()
     }
 
     // The declared runs cut at the bounds of pages, the lowest first.
-    pub fn pieces(&self) -> Pieces
-        ensures { result.items.items ≡ cut_runs (declared self.now) }
+    #[inline]
+    pub fn pieces(&self) -> Pieces<'_>
+        ensures { left result ≡ cut_runs (declared self.now) }
     {
         self.runs.pieces()
     }

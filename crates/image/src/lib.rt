@@ -13,7 +13,7 @@ mod state;
 pub use journal::MEMORY;
 pub use record::PAGE;
 pub use run::{ImageFault, Piece, Run};
-pub use runs::{PIECES, Pieces, RUNS, Runs};
+pub use runs::{Pieces, RUNS, Runs};
 pub use state::Image;
 
 // Names the theorem that joining a stretch in declares its bytes and no others, and keeps the runs apart.

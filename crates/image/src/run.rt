@@ -1,11 +1,9 @@
 // Stretches of the memory.
-ghost use Rattle.std.specs.Prelude.{◌≡◌, ℕ, ◌+◌, ◌/◌, ◌%◌, ◌≤◌, [], ◌∷◌, ◌++◌, length, if◌then◌else◌, slice_index};
+ghost use Rattle.std.specs.Prelude.{◌≡◌, ℕ, ◌+◌, ◌/◌, ◌%◌, ◌<◌, ◌≤◌, [], ◌∷◌, length, if◌then◌else◌, slice_index};
 ghost use Rattle.image.specs.Runs.{is_declared};
 ghost use Rattle.image.specs.Cut.{cut};
 ghost use Rattle.image.specs.Stretch.{Stretches};
 
-use crate::runs::PIECES;
-use arrayvec::ArrayVec;
 use journal::MEMORY;
 use record::PAGE;
 
@@ -40,22 +38,15 @@ impl Run {
         target[self.from..self.to].copy_from_slice(&source[self.from..self.to]);
     }
 
-    // Puts the pieces of the run behind the others.
-    pub(crate) fn cut(&self, pieces: &mut ArrayVec<Piece, PIECES>)
+    // How many pages it reaches into: it is cut at the bounds between them.
+    #[inline]
+    #[tactic(auto, using(crate::proofs::Cutting::run_count))]
+    pub(crate) fn piece_count(&self) -> usize
+        requires some { self.now.from < self.now.to }
         requires inside { self.now.to ≤ 6144 }
-        requires room { length pieces.old.items + length (cut 64 self.now.from self.now.to) ≤ 79 }
-        ensures { pieces.new.items ≡ pieces.old.items ++ cut 64 self.now.from self.now.to }
+        ensures { result ≡ length (cut 64 self.now.from self.now.to) }
     {
-        let mut from = self.from;
-        // No iterator of the library goes by the bounds of pages.
-        while from < self.to {
-            let end = ((from / PAGE + 1) * PAGE).min(self.to);
-            pieces.push(Piece {
-                start: from,
-                size: end - from,
-            });
-            from = end;
-        }
+        (self.to - 1) / PAGE - self.from / PAGE + 1
     }
 }
 

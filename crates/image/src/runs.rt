@@ -1,17 +1,16 @@
 // The runs of declared bytes, and the pieces that they are cut into.
+ghost use Rattle.std.specs.Prelude.{◌≤◌, ◌++◌};
 ghost use Rattle.image.specs.Runs.{Apart, Inside};
-ghost use Rattle.image.specs.Cut.{AllPieces};
+ghost use Rattle.image.specs.Cut.{AllPieces, cut, cut_runs};
 
 mod calls;
+mod cutting;
 
-use crate::run::{Piece, Run};
+use crate::run::Run;
 use arrayvec::ArrayVec;
 
 // How many runs there are at most.
 pub const RUNS: usize = 16;
-
-// How many pieces sixteen runs are cut into at most.
-pub const PIECES: usize = 79;
 
 // Runs that don't touch, in ascending order.
 #[derive(Drop)]
@@ -21,9 +20,16 @@ pub struct Runs {
     ghost inside: { ∥ Inside items.items ∥₁ },
 }
 
-// The pieces of runs, the lowest first. Each has bytes, and lies in one page of the memory.
+// The pieces of runs, the lowest first, each cut off when it is asked for. Each has bytes, and lies in one page of the
+// memory.
 #[derive(Drop)]
-pub struct Pieces {
-    pub items: ArrayVec<Piece, PIECES>,
-    ghost fit: { ∥ AllPieces items.items ∥₁ },
+pub struct Pieces<'a> {
+    // What is left of the run that is being cut up, and the runs after it.
+    pub from: usize,
+    pub to: usize,
+    pub runs: &'a [Run],
+    ghost inside: { to ≤ 6144 },
+    ghost apart: { ∥ Apart 0 runs.now ∥₁ },
+    ghost all_inside: { ∥ Inside runs.now ∥₁ },
+    ghost fit: { ∥ AllPieces (cut 64 from to ++ cut_runs runs.now) ∥₁ },
 }
