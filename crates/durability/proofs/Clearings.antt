@@ -72,7 +72,7 @@ blanking_all test i (suc k) j a b t =
     widen false more h = h
 
 -- the same of a clearing
-clearing_steady : (n : ℕ) (shows : ℕ → Shown) (c : ℕ) → Steady (clearing n shows c)
+pub clearing_steady : (n : ℕ) (shows : ℕ → Shown) (c : ℕ) → Steady (clearing n shows c)
 clearing_steady n shows c = steady_append (blanking (astray n shows c) 0 n) (settled ∷ []) (blanking_steady (astray n shows c) 0 n) tt
 
 clearing_only : (n : ℕ) (shows : ℕ → Shown) (c j : ℕ) (bytes : List ℕ) → Among (wrote j bytes) (clearing n shows c) → Blanked (astray n shows c) 0 n j bytes

@@ -5,3 +5,4 @@ pub mod Steps
 pub mod Tables
 pub mod Telling
 pub mod Unique
+pub mod Tabling

@@ -12,6 +12,7 @@ use Rattle.journal.specs.declared.survey.LogFault.{LogFault}
 use Rattle.journal.specs.declared.survey.LogFault.TheVariants.{NoLog, NoMark}
 use Rattle.journal.specs.Log.{nothing, said, if_serial, log}
 use Rattle.journal.specs.Notes.{kind_of_note, Tells, Notes, Noted, if_noted}
+use Rattle.journal.specs.Pages.{Tabled}
 use Rattle.journal.specs.Opening.{Here, Names, Runs, Covers, HasNoLog}
 use Rattle.journal.specs.Survey.{by_serial, Bare, NamesLow, Ended, Whole, Analysis, Analysed, Surveyed, Surveys}
 use Rattle.journal.proofs.Places.{sound, no_places, serial_here, serial_else, serial_nothing, at_place, in_log, kept}
@@ -162,6 +163,9 @@ module _ (n : ℕ) (shows : ℕ → Shown) (notes : List (Option Note)) (noted :
         pages = a.covers.size;
         only = λ p h t. covers s.low s.last p (a.covers.only p h t);
         all = λ p h w. a.covers.all p h (covered s.low s.last p (λ k from to. run.unbroken k from (omega (arith, run.to))) w);
+        table =
+            subst (λ (k : ℕ). Tabled (log k shows) s.low (s.last + 1 - s.low) s.pages) noted.count
+            (a.table shows (subst (λ (k : ℕ). Noted k shows notes) (sym noted.count) noted));
       }
 
   pub surveys : (r : Result Survey LogFault) → Analysed notes r → Surveys n shows r

@@ -1,5 +1,5 @@
 -- What records say of the pages of the memory, and the page table that keeps it.
-use Rattle.std.specs.Prelude.{◌≡◌, ℕ, zero, suc, ◌+◌, ◌<◌, Bool, true, false, cond, List, length, ◌==◌, nat_le, nat_lt}
+use Rattle.std.specs.Prelude.{◌≡◌, ℕ, zero, suc, ◌+◌, ◌<◌, Bool, true, false, cond, length, ◌==◌, nat_le, nat_lt}
 use Rattle.std.specs.Int.{bit_at}
 use Rattle.record.specs.Entry.{Entry}
 use Rattle.journal.specs.declared.pages.PageTable.{PageTable}

@@ -1,5 +1,5 @@
 -- What an analysis of the notes finds: of the notes themselves, and of the log that they tell of.
-use Rattle.std.specs.Prelude.{◌≡◌, ℕ, ◌+◌, ◌%◌, ◌^◌, ◌<◌, ◌≤◌, Bool, true, false, cond, List, length, Some, None, Ok, Err, Option, Result, nat_le, nat_lt, slice_index_or, slice_set}
+use Rattle.std.specs.Prelude.{◌≡◌, ℕ, ◌+◌, ◌-◌, ◌%◌, ◌^◌, ◌<◌, ◌≤◌, Bool, true, false, cond, List, length, Some, None, Ok, Err, Option, Result, nat_le, nat_lt, slice_index_or, slice_set}
 use Rattle.record.specs.Kind.{code_of}
 use Rattle.device.specs.Disk.{Shown}
 use Rattle.record.specs.declared.Head.{Head}
@@ -8,7 +8,8 @@ use Rattle.journal.specs.declared.survey.Survey.{Survey}
 use Rattle.journal.specs.declared.survey.LogFault.{LogFault}
 use Rattle.journal.specs.declared.survey.LogFault.TheVariants.{NoLog, NoMark}
 use Rattle.journal.specs.Log.{log}
-use Rattle.journal.specs.Notes.{kind_of_note, if_noted}
+use Rattle.journal.specs.Notes.{kind_of_note, if_noted, Noted}
+use Rattle.journal.specs.Pages.{Tabled}
 use Rattle.journal.specs.Opening.{Names, Runs, Covers, HasNoLog, HasNoMark}
 
 -- The note with serial s, where its place has it; none where that has another, or none.
@@ -98,6 +99,7 @@ pub record Analysis (notes : List (Option Note)) (s : Survey) : Type 0 where
   pub last : end.head.serial ≡ s.last
   pub ordinal : end.head.ordinal ≡ s.ordinal
   pub covers : Covering notes s.low (s.last + 1) s.covered
+  pub table : (shows : ℕ → Shown) → Noted (length notes) shows notes → Tabled (log (length notes) shows) s.low (s.last + 1 - s.low) s.pages
 
 -- The lowest serial is named, and has no mark.
 pub record Markless (notes : List (Option Note)) (low : ℕ) : Type 0 where
@@ -118,6 +120,7 @@ pub record Surveyed (n : ℕ) (shows : ℕ → Shown) (s : Survey) : Type 0 wher
   pub pages : length s.covered ≡ 64
   pub only : (p : ℕ) → p < 64 → slice_index_or s.covered p false ≡ true → Covers (log n shows) s.low s.last p
   pub all : (p : ℕ) → p < 64 → Covers (log n shows) s.low s.last p → slice_index_or s.covered p false ≡ true
+  pub table : Tabled (log n shows) s.low (s.last + 1 - s.low) s.pages
 
 abbrev pub Surveys : ℕ → (ℕ → Shown) → Result Survey LogFault → Type 0
 Surveys n shows (Ok s) = Surveyed n shows s

@@ -1,12 +1,16 @@
 // The analysis of a log from the notes of its sectors: where it begins, how far it goes, and which
 // pages it covers. The notes are any notes: nothing here rests on their being those of a log.
-ghost use Rattle.std.specs.Prelude.{◌≡◌, ℕ, ◌+◌, ◌^◌, ◌<◌, ◌≤◌, length, nat_le, Some};
+ghost use Rattle.std.specs.Prelude.{◌≡◌, ℕ, ◌+◌, ◌-◌, ◌^◌, ◌<◌, ◌≤◌, length, nat_le, Some};
 ghost use Rattle.device.specs.Disk.{Shown};
-ghost use Rattle.journal.specs.Notes.{Noted};
+ghost use Rattle.journal.specs.Log.{log};
+ghost use Rattle.journal.specs.Notes.{Notes, Noted};
+ghost use Rattle.journal.specs.Pages.{Noted as Says, Tabled};
+ghost use Rattle.record.specs.Entry.{Entry};
 ghost use Rattle.record.specs.Kind.{code_of};
 ghost use Rattle.journal.specs.Survey.{by_serial, later_of, Topped, Named, Ended, with_page, Covering, Analysed, Surveys};
 
 use crate::note::{Note, of_serial};
+use crate::pages::PageTable;
 use record::{Head, Kind, PAGES, SERIALS};
 
 // Why the notes show no log.
@@ -29,6 +33,8 @@ pub struct Survey {
     pub ordinal: u64,
     // Whether a record from low to last holds the whole page.
     pub covered: [bool; PAGES],
+    // What the records from low to last say of pages.
+    pub pages: PageTable,
 }
 
 // Whether a record of this kind ends a transaction or stands alone.
@@ -124,6 +130,29 @@ fn covered(notes: &[Option<Note>], low: u64, last: u64) -> [bool; PAGES]
     pages
 }
 
+// Notes what a record says of its page; a mark says nothing.
+fn tell(table: &mut PageTable, note: Option<Note>)
+    ensures { (e : Entry) → Notes e note → (e.kind ≡ 4 → length e.bytes ≡ 0) → Says e table.old table.new }
+{
+    if let Some(note) = note {
+        if note.kind != Kind::Mark {
+            table.note(note.page as usize, note.whole);
+        }
+    }
+}
+
+// What the notes from low to last say of pages.
+fn table_of(notes: &[Option<Note>], low: u64, last: u64) -> PageTable
+    requires { (low ≤ last) × (last < 2 ^ 63) }
+    ensures { (shows : ℕ → Shown) → Noted (length notes.now) shows notes.now → Tabled (log (length notes.now) shows) low (last + 1 - low) result }
+{
+    let mut table = PageTable::new();
+    for serial in low..=last {
+        tell(&mut table, find(notes, serial));
+    }
+    table
+}
+
 // What the notes show, whatever they are.
 fn analysed(notes: &[Option<Note>]) -> Result<Survey, LogFault>
     ensures { Analysed notes.now result }
@@ -139,6 +168,7 @@ fn analysed(notes: &[Option<Note>]) -> Result<Survey, LogFault>
         last,
         ordinal: end.head.ordinal,
         covered: covered(notes, low, last),
+        pages: table_of(notes, low, last),
     })
 }
 

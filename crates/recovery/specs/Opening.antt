@@ -1,5 +1,5 @@
 -- What an opening answers and leaves, for every content of the device.
-use Rattle.std.specs.Prelude.{◌≡◌, ℕ, ◌+◌, ◌<◌, ◌≤◌, ◌⊎◌, List, Ok, Err, Result}
+use Rattle.std.specs.Prelude.{◌≡◌, ℕ, ◌+◌, ◌-◌, ◌<◌, ◌≤◌, ◌⊎◌, List, Ok, Err, Result}
 use Rattle.device.specs.declared.fault.DeviceFault.TheVariants.{Power, Misaddressed, Unfit, Spoiled}
 use Rattle.device.specs.Disk.{Disk, Shown}
 use Rattle.device.specs.Meaning.{Failed, Lost, Restarted}
@@ -7,6 +7,7 @@ use Rattle.device.specs.Trace.{Done, CutShort}
 use Rattle.journal.specs.declared.survey.Survey.{Survey}
 use Rattle.journal.specs.Log.{log}
 use Rattle.journal.specs.Opening.{Names, Runs, Usable, Remembers, Finds, HasNoLog, HasNoMark, Uncovered as Bare}
+use Rattle.journal.specs.Pages.{Tabled}
 use Rattle.recovery.specs.declared.fault.RecoveryFault.{RecoveryFault}
 use Rattle.recovery.specs.declared.places.Places.{Places}
 use Rattle.recovery.specs.declared.fault.RecoveryFault.TheVariants.{Device, Size, NoLog, NoMark, Uncovered}
@@ -50,11 +51,12 @@ pub record CutClearing (n : ℕ) (d : Disk) (o : ℕ) (e : Disk) : Type 0 where
   pub cut : CutShort d (clearing n d.shows c) o e
 
 -- What an opening of a log of n sectors makes of a device that was just restarted. It answers what it
--- found and how many strays it cleared; or it refuses, with no sector written; or power fails, while it
+-- found, with the page table of that, and how many strays it cleared; or it refuses, with no sector written; or power fails, while it
 -- reads or while it clears.
 abbrev pub Recovers : ℕ → Disk → Result (Survey × ℕ) RecoveryFault → Disk → List ℕ → Type 0
 Recovers n d (Ok x) e memory =
     Finds n d.shows x.0.ordinal x.1 x.0.low x.0.last memory × Done d (clearing n d.shows x.0.last) e
+    × Tabled (log n d.shows) x.0.low (x.0.last + 1 - x.0.low) x.0.pages
 Recovers n d (Err (Device (Power o))) e memory = Failed d o e ⊎ CutClearing n d o e
 Recovers n d (Err (Device (Misaddressed _ _))) e memory = ⊥
 Recovers n d (Err (Device Unfit)) e memory = ⊥
