@@ -21,7 +21,7 @@ use Rattle.transactions.specs.State.{spooled, own}
 use Rattle.transactions.specs.Truncation.{flushing, truncation}
 use Rattle.law.specs.Transactions.{Transaction, made_of, batch}
 use Rattle.law.specs.Kept.{Entered, AllKept, NoneKept}
-use Rattle.law.specs.Events.{Moment, working, closed, disk_at, Call, format, opening, close, begin, set_range, write, read, commit, abort, flush, truncate, Event, Tried, FormatTried, OpeningTried, Silent, fits_none, does_enter, does_truncate, commit_plan, flush_plan, truncate_plan, CutBefore, Happens, Chain}
+use Rattle.law.specs.Events.{Moment, working, closed, disk_at, Call, format, opening, close, begin, set_range, write, read, commit, abort, flush, truncate, Event, Tried, FormatTried, OpeningTried, Silent, fits_none, does_enter, does_truncate, commit_plan, flush_plan, truncate_plan, Happens, Chain}
 use Rattle.law.specs.Law.{transactions, own_transaction, later, found_again, newly, entered_after, after_call, after, places_at, AllAreKept, Finds, OpensLawfully, LawfulCall, Lawful, AllLawful, CrashSafe}
 use Rattle.law.proofs.History.{History, Resting, Safe, Sound, settles, with_barrier, AllCounted}
 use Rattle.law.proofs.Openings.{open_found, open_failed}
@@ -258,17 +258,13 @@ module _ (n count : ℕ) (xs : List Entered) (c : Counted n count xs) where
         let l = steps.flush_answers n h.state k.state h.disk k.disk (past count xs) w done r (traced (flush_plan h.state) h.disk done cut r k.disk t) does in
         kept_so r s l
 
-    truncate_step : (r : Result ℕ StoreFault) (cut : Option Act) → Truncates h r k
-        → (Tried (truncate_plan h.state h.disk.shows) h.disk done cut r k.disk ⊎ CutBefore h done cut k)
+    truncate_step : (r : Result ℕ StoreFault) (cut : Option Act) → Truncates h r k → Tried (truncate_plan h.state h.disk.shows) h.disk done cut r k.disk
         → ((j : ℕ) → r ≡ Ok j → AllKept (places_at (working h)) 0 (joined done xs [])) × StoreStands k (joined done xs [])
-    truncate_step r cut does (inl t) =
+    truncate_step r cut does t =
         let plan = truncate_plan h.state h.disk.shows in
         let part = part_of plan h.disk done cut r k.disk t in
         let s = λ (barrier : settles done ≡ true). truncate_made n count xs h.state h.disk w done part.0 barrier part.1 in
-        kept_so r s (truncated.truncate_answers n h.state k.state h.disk k.disk (past count xs) w done r (inl (traced plan h.disk done cut r k.disk t)) does)
-    truncate_step r cut does (inr (none, _, o)) =
-        let s = λ (barrier : settles done ≡ true). absurd (both_ways (settles done) (ap settles none) barrier) in
-        kept_so r s (truncated.truncate_answers n h.state k.state h.disk k.disk (past count xs) w done r (inr (none, o)) does)
+        kept_so r s (truncated.truncate_answers n h.state k.state h.disk k.disk (past count xs) w done r (traced plan h.disk done cut r k.disk t) does)
 
     commit_step : (number : ℕ) (flushed : Bool) (r : Result (ℕ × ℕ) StoreFault) (cut : Option Act) → Commits number flushed h r k
         → Tried (commit_plan h.state number flushed) h.disk done cut r k.disk

@@ -21,7 +21,7 @@ use Rattle.transactions.specs.Held.{Held, Formatted, Opened, Commits, Flushes, T
 use Rattle.transactions.specs.Rows.{first_fit, token_rows, commit_rows}
 use Rattle.transactions.specs.State.{spooled, own}
 use Rattle.transactions.specs.Truncation.{truncation}
-use Rattle.law.specs.Events.{CutAt, Tried, FormatTried, OpeningTried, does_enter, does_truncate, commit_plan, flush_plan, truncate_plan, CutBefore}
+use Rattle.law.specs.Events.{CutAt, Tried, FormatTried, OpeningTried, does_enter, does_truncate, commit_plan, flush_plan, truncate_plan}
 use Rattle.law.proofs.Cuts.{cut_at}
 use Rattle.law.proofs.Standing.{awake, asleep}
 use Rattle.law.proofs.Steps.{passing, token_fits, none_declared, room_fits}
@@ -105,28 +105,15 @@ truncate_idle h is = cond-false (does_truncate h.state h.disk.shows) (truncation
 truncate_writes : (h : Held) → does_truncate h.state h.disk.shows ≡ true → truncate_plan h.state h.disk.shows ≡ truncation h.state h.disk.shows
 truncate_writes h is = cond-true (does_truncate h.state h.disk.shows) (truncation h.state h.disk.shows) [] is
 
-abbrev pub TruncateTried : Held → Result ℕ StoreFault → Held → Type 0
-TruncateTried h r k =
-    (done : List Act) × (cut : Option Act) × (Tried (truncate_plan h.state h.disk.shows) h.disk done cut r k.disk ⊎ CutBefore h done cut k)
-
-truncate_so : (h k : Held) (r : Result ℕ StoreFault) → SomeTried (truncate_plan h.state h.disk.shows) h.disk r k.disk → TruncateTried h r k
-truncate_so h k r (done, cut, t) = (done, cut, inl t)
-
-pub truncate_tried : (h k : Held) (r : Result ℕ StoreFault) → Truncates h r k → TruncateTried h r k
+pub truncate_tried : (h k : Held) (r : Result ℕ StoreFault) → Truncates h r k → SomeTried (truncate_plan h.state h.disk.shows) h.disk r k.disk
 truncate_tried h k (Ok j) (passes, inl c) =
-    truncate_so h k (Ok j) (none_made (truncate_plan h.state h.disk.shows) h.disk k.disk j (truncate_idle h (idle_clean h.state h.disk c.clean)) c.device)
+    none_made (truncate_plan h.state h.disk.shows) h.disk k.disk j (truncate_idle h (idle_clean h.state h.disk c.clean)) c.device
 truncate_tried h k (Ok j) (passes, inr c) =
-    truncate_so h k (Ok j)
-    (all_made (truncate_plan h.state h.disk.shows) (truncation h.state h.disk.shows) h.disk k.disk j (truncate_writes h (writes h.state h.disk passes c.some)) c.done)
+    all_made (truncate_plan h.state h.disk.shows) (truncation h.state h.disk.shows) h.disk k.disk j (truncate_writes h (writes h.state h.disk passes c.some)) c.done
 truncate_tried h k (Err f) (inl (fits, _, same)) =
-    truncate_so h k (Err f) (refused (truncate_plan h.state h.disk.shows) h.disk k.disk f (truncate_idle h (idle_refused h.state h.disk f fits)) same)
+    refused (truncate_plan h.state h.disk.shows) h.disk k.disk f (truncate_idle h (idle_refused h.state h.disk f fits)) same
 truncate_tried h k (Err f) (inr c) =
-    ⊎_elim
-    (λ failed. ([], Some looked, inr (refl, refl, (c.origin, failed))))
-    (λ w.
-    truncate_so h k (Err f)
-    (cut_made (truncate_plan h.state h.disk.shows) (truncation h.state h.disk.shows) h.disk k.disk f c.origin (truncate_writes h (writes h.state h.disk w.passes w.some)) c.fault w.cut))
-    c.cut
+    cut_made (truncate_plan h.state h.disk.shows) (truncation h.state h.disk.shows) h.disk k.disk f c.origin (truncate_writes h (writes h.state h.disk c.passes c.some)) c.fault c.cut
 
 -- a format
 

@@ -25,7 +25,7 @@ use Rattle.transactions.specs.declared.state.State.{State}
 use Rattle.transactions.specs.Calls.{writing}
 use Rattle.transactions.specs.Rows.{first_fit, busy, serials}
 use Rattle.transactions.specs.State.{spooled}
-use Rattle.transactions.specs.Truncation.{CutReading, dirty_pages, due_pages, crowded, covered_to, truncate_rows, flushing, covering, going_home, truncation, Truncated, Truncates}
+use Rattle.transactions.specs.Truncation.{dirty_pages, due_pages, crowded, covered_to, truncate_rows, flushing, covering, going_home, truncation, Truncated, Truncates}
 use Rattle.law.specs.Transactions.{Transaction, made_of, batch}
 use Rattle.law.specs.Events.{fits_none, does_truncate, truncate_plan}
 use Rattle.law.proofs.History.{History, Resting, Safe, Sound, settles, with_barrier, AllCounted}
@@ -224,10 +224,6 @@ none_moved : (d e : Disk) (made : List Act) → Traced [] d made e → e ≡ d
 none_moved d e made (inl (_, same)) = same
 none_moved d e made (inr (o, c)) = absurd (omega (arith, length-append made (c.act ∷ c.rest), ap length c.all))
 
--- Power failed while the live log was read, and nothing was made.
-abbrev pub CutBefore : State → Disk → List Act → Disk → Type 0
-CutBefore s d made e = (made ≡ []) × ((o : ℕ) × CutReading s d o e)
-
 module _ (n : ℕ) (s s' : State) (d e : Disk) (h : History) (w : Sound n s d h) (made : List Act) where
   abbrev After : History
   After = with_barrier made h.entered h.kept
@@ -237,15 +233,14 @@ module _ (n : ℕ) (s s' : State) (d e : Disk) (h : History) (w : Sound n s d h)
   TruncateKeeps r = ((k : ℕ) → r ≡ Ok k → AllCounted After) × Sound n s' e After
 
   abbrev pub Made : Type 0
-  Made = Traced (truncate_plan s d.shows) d made e ⊎ CutBefore s d made e
+  Made = Traced (truncate_plan s d.shows) d made e
 
   -- one that writes nothing
   traced_if : (b : Bool) → does_truncate s d.shows ≡ b → Traced (truncate_plan s d.shows) d made e → Traced (cond b (truncation s d.shows) []) d made e
   traced_if b is traced = subst (λ (c : Bool). Traced (cond c (truncation s d.shows) []) d made e) is traced
 
   nothing_made : does_truncate s d.shows ≡ false → Made → made ≡ []
-  nothing_made idle (inl traced) = none_made d e made (traced_if false idle traced)
-  nothing_made idle (inr (none, _)) = none
+  nothing_made idle traced = none_made d e made (traced_if false idle traced)
 
   after_none : made ≡ [] → After ≡ h
   after_none none = ap (λ (xs : List Act). with_barrier xs h.entered h.kept) none
@@ -268,10 +263,9 @@ module _ (n : ℕ) (s s' : State) (d e : Disk) (h : History) (w : Sound n s d h)
     all_made : Done d (truncation s d.shows) e → made ≡ truncation s d.shows → After ≡ all_kept h.entered
     all_made done same = ap (λ (xs : List Act). with_barrier xs h.entered h.kept) same ∙ barrier_after s d h rest calm free (later_acts s d h rest calm free)
 
-    done_made : Done d (truncation s d.shows) e → Traced (truncation s d.shows) d made e ⊎ CutBefore s d made e → After ≡ all_kept h.entered
-    done_made done (inl (inl (same, _))) = all_made done same
-    done_made done (inl (inr (o, c))) = absurd (both_ways e.on (cut_off c.act c.reached e o c.cut) (ended s d h rest calm free e done).on)
-    done_made done (inr (_, (o, f))) = absurd (both_ways e.on (failed_off d e o f.cut) (ended s d h rest calm free e done).on)
+    done_made : Done d (truncation s d.shows) e → Traced (truncation s d.shows) d made e → After ≡ all_kept h.entered
+    done_made done (inl (same, _)) = all_made done same
+    done_made done (inr (o, c)) = absurd (both_ways e.on (cut_off c.act c.reached e o c.cut) (ended s d h rest calm free e done).on)
 
     traced_safe : Traced (truncation s d.shows) d made e → Safe n e After
     traced_safe traced = subst (λ (k : ℕ). Safe k e After) places (go traced)
@@ -282,8 +276,7 @@ module _ (n : ℕ) (s s' : State) (d e : Disk) (h : History) (w : Sound n s d h)
 
   -- what it leaves where power failed
   cut_stands : Made → Safe n e After
-  cut_stands (inr (none, (o, f))) = subst (λ (g : History). Safe n e g) (sym (after_none none)) (safe_failed n d e o h (safe n s d h w) f.cut)
-  cut_stands (inl traced) =
+  cut_stands traced =
       ⊎_elim
       (λ (does : does_truncate s d.shows ≡ true).
       let passes = none_of (fit s d) (and_parts (fits_none (fit s d)) (leb 1 (pages s d)) does).0 in
@@ -303,7 +296,7 @@ module _ (n : ℕ) (s s' : State) (d e : Disk) (h : History) (w : Sound n s d h)
       )
   truncate_answers (Ok k) traced (passes, inr c) =
       let free = clear s (length (due_pages s d.shows)) passes in
-      let is = done_made free c.done (⊎_elim (λ t. inl (traced_if true (writes s d passes c.some) t)) (λ k. inr k) traced) in
+      let is = done_made free c.done (traced_if true (writes s d passes c.some) traced) in
       let left = truncate_done s d h (resting free.on) (w.free free.on free.free) free e s' c.done c.state in
       let rest = subst (λ (k : ℕ). Resting k e s' (all_kept h.entered)) (places free) left in (
         λ j same. subst AllCounted (sym is) refl,

@@ -17,7 +17,7 @@ use Rattle.transactions.specs.Calls.{writing}
 use Rattle.transactions.specs.Held.{Held, Formatted, Opened, Begins, SetsRange, WritesRange, ReadsRange, Commits, Aborts, Flushes, Truncates}
 use Rattle.transactions.specs.Rows.{first_fit, token_rows, commit_rows}
 use Rattle.transactions.specs.State.{OpenOn, spooled, own}
-use Rattle.transactions.specs.Truncation.{dirty_pages, due_pages, truncate_rows, truncation, CutReading}
+use Rattle.transactions.specs.Truncation.{dirty_pages, due_pages, truncate_rows, truncation}
 
 -- A run between two calls: a store works on its device, or the device lies alone.
 pub data Moment : Type 0 where
@@ -117,10 +117,6 @@ does_truncate s shows = fits_none (first_fit (truncate_rows s (length (due_pages
 abbrev pub truncate_plan : State → (ℕ → Shown) → List Act
 truncate_plan s shows = cond (does_truncate s shows) (truncation s shows) []
 
--- Power failed while a truncation read the live log, and nothing had been written.
-abbrev pub CutBefore : Held → List Act → Option Act → Held → Type 0
-CutBefore h done cut k = (done ≡ []) × (cut ≡ Some looked) × ((o : ℕ) × CutReading h.state h.disk o k.disk)
-
 -- The call answered so and led from one moment to the other, with these calls on the device.
 abbrev pub Happens : Call → Moment → List Act → Option Act → Moment → Type 0
 Happens (format r) (closed d) done cut (working k) = Formatted d r k × FormatTried d done cut r k.disk
@@ -136,7 +132,7 @@ Happens (commit number flushed r) (working h) done cut (working k) =
 Happens (abort number r) (working h) done cut (working k) = Aborts number h r k × Silent done cut
 Happens (flush r) (working h) done cut (working k) = Flushes h r k × Tried (flush_plan h.state) h.disk done cut r k.disk
 Happens (truncate r) (working h) done cut (working k) =
-    Truncates h r k × (Tried (truncate_plan h.state h.disk.shows) h.disk done cut r k.disk ⊎ CutBefore h done cut k)
+    Truncates h r k × Tried (truncate_plan h.state h.disk.shows) h.disk done cut r k.disk
 Happens _ _ _ _ _ = ⊥
 
 -- The events follow one another, from one moment to another.

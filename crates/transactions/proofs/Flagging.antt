@@ -1,6 +1,5 @@
 -- What is said of pages, and the pages that a test chooses.
-use Rattle.std.proofs.Common.{◌≡◌, ℕ, zero, suc, ◌+◌, ◌-◌, ◌<◌, ◌≤◌, Bool, true, false, cond, List, [], ◌∷◌, ◌++◌, length, get_or, sym, refl, ap, ◌∙◌, subst, inl, inr, ⊎_elim, arith}
-use Rattle.std.proofs.lemmas.List.{append_assoc}
+use Rattle.std.proofs.Common.{◌≡◌, ℕ, zero, suc, ◌+◌, ◌-◌, ◌<◌, ◌≤◌, Bool, true, false, cond, List, [], ◌∷◌, length, sym, refl, ap, ◌∙◌, subst, inl, inr, ⊎_elim, arith}
 use Rattle.std.proofs.lemmas.Bool.{cases_eq}
 use Rattle.device.specs.Disk.{Among}
 use Rattle.transactions.specs.Truncation.{chosen}
@@ -23,37 +22,43 @@ pub chosen_end : (test : ℕ → Bool) (i n : ℕ) → n ≤ i → onward test i
 unfolding chosen
 chosen_end test i n h = let e : n - i ≡ 0 = omega arith in rw e refl
 
--- tests that agree choose the same
-pub chosen_same : (test test' : ℕ → Bool) (i k n : ℕ) → i + k ≤ n → ((p : ℕ) → p < n → test p ≡ test' p) → chosen test i k ≡ chosen test' i k
+-- tests that agree on the pages looked at choose the same
+pub chosen_same : (test test' : ℕ → Bool) (i k : ℕ) → ((p : ℕ) → i ≤ p → p < i + k → test p ≡ test' p) → chosen test i k ≡ chosen test' i k
 unfolding chosen
-chosen_same test test' i zero n h same = refl
-chosen_same test test' i (suc k) n h same =
-    let e = same i (omega arith) in
-    let rest = chosen_same test test' (i + 1) k n (omega arith) same in
+chosen_same test test' i zero same = refl
+chosen_same test test' i (suc k) same =
+    let e = same i (omega arith) (omega arith) in
+    let rest = chosen_same test test' (i + 1) k (λ p a b. same p (omega arith) (omega arith)) in
     ap (λ (b : Bool). cond b (i ∷ chosen test (i + 1) k) (chosen test (i + 1) k)) e
     ∙ ap (λ (ps : List ℕ). cond (test' i) (i ∷ ps) ps) rest
 
--- what is chosen are pages of those looked at
-pub chosen_inside : (test : ℕ → Bool) (i k n j : ℕ) → i + k ≤ n → j < length (chosen test i k) → get_or (chosen test i k) j 0 < n
+-- pages up to t that don't pass are passed over
+pub chosen_skip : (test : ℕ → Bool) (k i t n : ℕ) → i + k ≡ t → t ≤ n → ((p : ℕ) → i ≤ p → p < t → test p ≡ false) → onward test i n ≡ onward test t n
+chosen_skip test zero i t n e h none = let same : i ≡ t = omega arith in ap (λ (j : ℕ). onward test j n) same
+chosen_skip test (suc k) i t n e h none =
+    chosen_pass test i n (omega arith) (none i (omega arith) (omega arith))
+    ∙ chosen_skip test k (i + 1) t n (omega arith) h (λ p a b. none p (omega arith) b)
+
+-- what is chosen was looked at, and passes
+pub chosen_passes : (test : ℕ → Bool) (i k p : ℕ) → Among p (chosen test i k) → (p < i + k) × (test p ≡ true)
 unfolding chosen
-chosen_inside test i zero n j h l = absurd (omega arith)
-chosen_inside test i (suc k) n j h l = go (test i) (λ m. chosen_inside test (i + 1) k n m (omega arith)) j l
+chosen_passes test i zero p h = absurd h
+chosen_passes test i (suc k) p h = go (test i) refl (λ rest. let r = chosen_passes test (i + 1) k p rest in (omega (arith, r.0), r.1)) h
   where
-    go : (c : Bool) → ((m : ℕ) → m < length (chosen test (i + 1) k) → get_or (chosen test (i + 1) k) m 0 < n) → (j : ℕ)
-        → j < length (cond c (i ∷ chosen test (i + 1) k) (chosen test (i + 1) k)) → get_or (cond c (i ∷ chosen test (i + 1) k) (chosen test (i + 1) k)) j 0 < n
-    go true rest zero l = omega arith
-    go true rest (suc j) l = rest j (omega arith)
-    go false rest j l = rest j l
+    go : (c : Bool) → test i ≡ c → (Among p (chosen test (i + 1) k) → (p < i + suc k) × (test p ≡ true))
+        → Among p (cond c (i ∷ chosen test (i + 1) k) (chosen test (i + 1) k)) → (p < i + suc k) × (test p ≡ true)
+    go true e later (inl same) = (omega (arith, same), ap test same ∙ e)
+    go true e later (inr rest) = later rest
+    go false e later rest = later rest
 
--- page i is put in behind those chosen below it, or passed
-pub puts_page : (test : ℕ → Bool) (i : ℕ) (out new ys : List ℕ) → i < 64 → test i ≡ true → new ≡ out ++ i ∷ [] → out ++ onward test i 64 ≡ ys → new ++ onward test (i + 1) 64 ≡ ys
-puts_page test i out new ys h t made was =
-    ap (λ (ps : List ℕ). ps ++ onward test (i + 1) 64) made ∙ append_assoc out (i ∷ []) (onward test (i + 1) 64)
-    ∙ ap (λ (ps : List ℕ). out ++ ps) (sym (chosen_one test i 64 h t)) ∙ was
-
-pub passes_page : (test : ℕ → Bool) (i : ℕ) (out new ys : List ℕ) → i < 64 → test i ≡ false → new ≡ out → out ++ onward test i 64 ≡ ys → new ++ onward test (i + 1) 64 ≡ ys
-passes_page test i out new ys h t made was =
-    ap (λ (ps : List ℕ). ps ++ onward test (i + 1) 64) made ∙ ap (λ (ps : List ℕ). out ++ ps) (sym (chosen_pass test i 64 h t)) ∙ was
+pub chosen_few : (test : ℕ → Bool) (i k : ℕ) → length (chosen test i k) ≤ k
+unfolding chosen
+chosen_few test i zero = omega arith
+chosen_few test i (suc k) = go (test i) (chosen_few test (i + 1) k)
+  where
+    go : (c : Bool) → length (chosen test (i + 1) k) ≤ k → length (cond c (i ∷ chosen test (i + 1) k) (chosen test (i + 1) k)) ≤ suc k
+    go true h = omega arith
+    go false h = omega arith
 
 -- all that passes is chosen
 pub chosen_has : (test : ℕ → Bool) (i k p : ℕ) → i ≤ p → p < i + k → test p ≡ true → Among p (chosen test i k)

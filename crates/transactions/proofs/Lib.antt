@@ -2,6 +2,10 @@
 pub mod Loops
 pub mod Plans
 pub mod Flagging
-pub mod Noting
+pub mod Sets
 pub mod Truncating
+pub mod Fitting
+pub mod Appending
+pub mod Noting
+pub mod Tabling
 pub mod Lying

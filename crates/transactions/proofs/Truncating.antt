@@ -1,40 +1,39 @@
 -- What a truncation found, as lists of pages, and what its tests say together.
-use Rattle.std.proofs.Common.{◌≡◌, ℕ, ◌<◌, ◌≤◌, Bool, true, false, cond, not, eqb, ltb, leb, ◌≢◌, List, [], ◌∷◌, map, length, None, Err, refl, ap, ◌∙◌, subst, inr, ⊎_elim, arith}
-use Rattle.std.proofs.lemmas.Bool.{cases_lt, eq-eqb, eqb-false}
+use Rattle.std.proofs.Common.{◌≡◌, ℕ, ◌<◌, ◌≤◌, Bool, true, false, cond, not, eqb, ltb, leb, ◌≢◌, List, [], ◌∷◌, map, length, None, Err, sym, refl, ap, ◌∙◌, subst, inr, ⊎_elim, arith}
+use Rattle.std.proofs.lemmas.Bool.{cases_lt, eq-eqb, eqb-true, eqb-false}
+use Rattle.std.proofs.lemmas.List.{nil_from_length}
 use Rattle.arrayvec.specs.ArrayVec.{array_vec_len}
 use Rattle.device.specs.declared.fault.DeviceFault.{DeviceFault}
 use Rattle.device.specs.declared.fault.DeviceFault.TheVariants.{Power, Misaddressed, Unfit, Spoiled}
 use Rattle.device.specs.Disk.{Disk, Shown, Among}
 use Rattle.device.specs.Trace.{Tries}
 use Rattle.journal.specs.Log.{log}
-use Rattle.journal.specs.Pages.{names, in_log}
+use Rattle.journal.specs.Pages.{names, in_log, named_in, covered_in}
 use Rattle.durability.specs.Items.{Item, recorded}
 use Rattle.transactions.specs.declared.fault.StoreFault.TheVariants.{Device}
-use Rattle.transactions.specs.declared.pages.Page.{Page}
-use Rattle.transactions.specs.declared.pages.Dirty.{Dirty}
 use Rattle.transactions.specs.declared.spool.Spooled.{Spooled}
 use Rattle.transactions.specs.declared.state.State.{State}
-use Rattle.transactions.specs.Pages.{named_in, covered_in, needed, Found, FoundDirty}
+use Rattle.transactions.specs.Pages.{members, due_of, Tabulates}
 use Rattle.transactions.specs.Parts.{Spool, item_of, waiting}
 use Rattle.transactions.specs.Rows.{first_fit}
 use Rattle.transactions.specs.State.{live, spooled}
-use Rattle.transactions.specs.Truncation.{in_items, is_dirty, is_due, chosen, dirty_pages, due_pages, crowded, truncating, truncation, PagesAnswer}
+use Rattle.transactions.specs.Truncation.{in_items, is_dirty, is_due, dirty_pages, due_pages, crowded, truncating, truncation, PagesAnswer}
 use Rattle.transactions.proofs.Flagging.{chosen_same, chosen_has}
 
--- what is noted chooses the dirty pages and those that are due
-pub dirty_is : (s : State) (shows : ℕ → Shown) (ps : List Page) → Found s shows ps → chosen (named_in ps) 0 64 ≡ dirty_pages s shows
-dirty_is s shows ps k = chosen_same (named_in ps) (is_dirty s shows) 0 64 64 (omega arith) k.named
+-- the table chooses the dirty pages and those that are due
+pub dirty_is : (s : State) (shows : ℕ → Shown) → Tabulates s shows → members s.pages.named ≡ dirty_pages s shows
+dirty_is s shows k = chosen_same (named_in s.pages) (is_dirty s shows) 0 64 (λ p a b. k.named p (omega arith))
 
-pub due_is : (s : State) (shows : ℕ → Shown) (ps : List Page) → Found s shows ps → chosen (needed ps) 0 64 ≡ due_pages s shows
-due_is s shows ps k =
-    chosen_same (needed ps) (is_due s shows) 0 64 64 (omega arith)
-    (λ p small.
-    ap (λ (b : Bool). cond b (not (covered_in ps p)) false) (k.named p small)
-    ∙ ap (λ (b : Bool). cond (is_dirty s shows p) (not b) false) (k.covered p small))
+pub due_is : (s : State) (shows : ℕ → Shown) → Tabulates s shows → due_of s.pages ≡ due_pages s shows
+due_is s shows k =
+    chosen_same (λ p. cond (named_in s.pages p) (not (covered_in s.pages p)) false) (is_due s shows) 0 64
+    (λ p a b.
+    ap (λ (x : Bool). cond x (not (covered_in s.pages p)) false) (k.named p (omega arith))
+    ∙ ap (λ (x : Bool). cond (is_dirty s shows p) (not x) false) (k.covered p (omega arith)))
 
-pub plan_is : (s : State) (shows : ℕ → Shown) (x : Dirty) → FoundDirty s shows x → truncating s x.due.items.items x.pages.items.items ≡ truncation s shows
-plan_is s shows x k =
-    ap (λ (xs : List ℕ). truncating s xs x.pages.items.items) k.due ∙ ap (λ (xs : List ℕ). truncating s (due_pages s shows) xs) k.pages
+pub plan_is : (s : State) (shows : ℕ → Shown) (due dirty : List ℕ) → due ≡ due_pages s shows → dirty ≡ dirty_pages s shows → truncating s due dirty ≡ truncation s shows
+plan_is s shows due dirty e f =
+    ap (λ (xs : List ℕ). truncating s xs dirty) e ∙ ap (λ (xs : List ℕ). truncating s (due_pages s shows) xs) f
 
 -- a part that waits names a page
 first_waits : (s : Spool) → 1 ≤ array_vec_len s → (x : Spooled) × (rest : List Item) × (waiting s ≡ item_of x ∷ rest)
@@ -71,9 +70,12 @@ nothing_waits s shows e =
     (λ (h : 1 ≤ length s.spool.items). let w = first_dirty s shows h in absurd (subst (λ (ps : List ℕ). Among w.0 ps) e w.1))
     (cases_lt (length s.spool.items) 1)
 
--- where the list of dirty pages is not empty, some page is dirty
-pub some_dirty : (s : State) (shows : ℕ → Shown) (x : Dirty) → FoundDirty s shows x → eqb (length x.pages.items.items) 0 ≡ false → dirty_pages s shows ≢ []
-some_dirty s shows x k h none = eqb-false (length x.pages.items.items) 0 h (ap length k.pages ∙ ap length none)
+-- where the set of dirty pages is not empty, some page is dirty
+pub some_dirty : (s : State) (shows : ℕ → Shown) (dirty : List ℕ) → dirty ≡ dirty_pages s shows → eqb (length dirty) 0 ≡ false → dirty_pages s shows ≢ []
+some_dirty s shows dirty e h none = eqb-false (length dirty) 0 h (ap length e ∙ ap length none)
+
+pub none_dirty : (s : State) (shows : ℕ → Shown) (dirty : List ℕ) → dirty ≡ dirty_pages s shows → eqb (length dirty) 0 ≡ true → dirty_pages s shows ≡ []
+none_dirty s shows dirty e h = nil_from_length (dirty_pages s shows) (sym (ap length e) ∙ eqb-true (length dirty) 0 h)
 
 -- power failed in the plan
 pub pages_cut : (s s' : State) (d e : Disk) (f : DeviceFault) → first_fit (crowded s (length (due_pages s d.shows)) ∷ []) ≡ None → dirty_pages s d.shows ≢ []

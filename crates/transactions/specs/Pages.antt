@@ -1,60 +1,41 @@
--- What is said of pages, as the code keeps it.
-use Rattle.std.specs.Prelude.{◌≡◌, ℕ, ◌+◌, ◌-◌, ◌<◌, Bool, true, false, cond, not, List, ◌==◌, slice_index_or}
-use Rattle.record.specs.Entry.{Entry}
-use Rattle.device.specs.Disk.{Shown}
-use Rattle.journal.specs.Log.{log as log_of}
-use Rattle.journal.specs.Pages.{names, covers, in_log, Agree}
-use Rattle.transactions.specs.declared.log.Log.{Log}
-use Rattle.transactions.specs.declared.pages.Page.{Page}
-use Rattle.transactions.specs.declared.pages.Dirty.{Dirty}
+-- Sets of pages, and what the page table of a store says.
+use Rattle.std.specs.Prelude.{◌≡◌, ℕ, ◌+◌, ◌<◌, ◌≤◌, true, false, cond, not, List, ◌==◌}
+use Rattle.std.specs.Int.{bit_at}
+use Rattle.arrayvec.specs.ArrayVec.{array_vec_len}
+use Rattle.device.specs.Disk.{Disk, Shown}
+use Rattle.journal.specs.declared.pages.PageTable.{PageTable}
+use Rattle.journal.specs.Pages.{names, covers, named_in, covered_in, Agree}
+use Rattle.durability.specs.Items.{Item, Appendable}
 use Rattle.transactions.specs.declared.state.State.{State}
-use Rattle.transactions.specs.Parts.{Spool, waiting}
-use Rattle.transactions.specs.Truncation.{in_items, said_of, dirty_pages, due_pages}
+use Rattle.transactions.specs.State.{live, spooled}
+use Rattle.transactions.specs.Truncation.{in_items, said_of, chosen}
 
--- Page p is named, or covered.
-abbrev pub unsaid : Page
-unsaid = record { named = false; covered = false }
+-- The pages of a set, one bit for each, the lowest first.
+abbrev pub members : ℕ → List ℕ
+members bits = chosen (λ p. bit_at bits p == 1) 0 64
 
-abbrev pub named_in : List Page → ℕ → Bool
-named_in ps p = (slice_index_or ps p unsaid).named
+-- The pages that a table has as named and not as covered.
+abbrev pub due_of : PageTable → List ℕ
+due_of table = chosen (λ p. cond (named_in table p) (not (covered_in table p)) false) 0 64
 
-abbrev pub covered_in : List Page → ℕ → Bool
-covered_in ps p = (slice_index_or ps p unsaid).covered
+-- The table has what these records say, beside what it had.
+pub record Gains (xs : List Item) (before after : PageTable) : Type 0 where
+  pub named : Agree (named_in after) (λ p. cond (named_in before p) true (in_items names xs p))
+  pub covered : Agree (covered_in after) (λ p. cond (covered_in before p) true (in_items covers xs p))
 
--- It is named and not covered.
-abbrev pub needed : List Page → ℕ → Bool
-needed ps p = cond (named_in ps p) (not (covered_in ps p)) false
+-- The table of a store says of each page what its live log and its spool say.
+pub record Tabulates (s : State) (shows : ℕ → Shown) : Type 0 where
+  pub named : Agree (named_in s.pages) (said_of names s shows)
+  pub covered : Agree (covered_in s.pages) (said_of covers s shows)
 
--- This is said of the page beside what was said; the others are as they were.
-pub record Told (page : ℕ) (said : Page) (before after : List Page) : Type 0 where
-  pub named : Agree (named_in after) (λ p. cond (cond (page == p) said.named false) true (named_in before p))
-  pub covered : Agree (covered_in after) (λ p. cond (cond (page == p) said.covered false) true (covered_in before p))
+-- What waits fits in the log, and will be read there as it was written.
+pub record Writable (s : State) : Type 0 where
+  pub begun : 1 ≤ s.log.low
+  pub from : s.log.low ≤ s.log.last
+  pub room : live s + array_vec_len s.spool ≤ s.log.places
+  pub number : s.log.ordinal < s.log.last + array_vec_len s.spool
+  pub waits : ∥ Appendable s.log.last (spooled s) ∥₁
 
--- What this record says was noted.
-pub record Noted (e : Entry) (before after : List Page) : Type 0 where
-  pub named : Agree (named_in after) (λ p. cond (names e p) true (named_in before p))
-  pub covered : Agree (covered_in after) (λ p. cond (covers e p) true (covered_in before p))
-
--- What k live records say was, from low on.
-pub record FoundFirst (log : Log) (shows : ℕ → Shown) (k : ℕ) (before after : List Page) : Type 0 where
-  pub named : Agree (named_in after) (λ p. cond (in_log names (log_of log.places shows) log.low k p) true (named_in before p))
-  pub covered : Agree (covered_in after) (λ p. cond (in_log covers (log_of log.places shows) log.low k p) true (covered_in before p))
-
--- What all of them say was.
-abbrev pub FoundLive : Log → (ℕ → Shown) → List Page → List Page → Type 0
-FoundLive log shows before after = FoundFirst log shows (log.last + 1 - log.low) before after
-
--- What all that waits says was.
-pub record FoundWaiting (s : Spool) (before after : List Page) : Type 0 where
-  pub named : Agree (named_in after) (λ p. cond (named_in before p) true (in_items names (waiting s) p))
-  pub covered : Agree (covered_in after) (λ p. cond (covered_in before p) true (in_items covers (waiting s) p))
-
--- That of a store's records was, live or waiting.
-pub record Found (s : State) (shows : ℕ → Shown) (ps : List Page) : Type 0 where
-  pub named : Agree (named_in ps) (said_of names s shows)
-  pub covered : Agree (covered_in ps) (said_of covers s shows)
-
--- These are the dirty pages, and those that are due.
-pub record FoundDirty (s : State) (shows : ℕ → Shown) (x : Dirty) : Type 0 where
-  pub pages : x.pages.items.items ≡ dirty_pages s shows
-  pub due : x.due.items.items ≡ due_pages s shows
+-- So it is while the store is on.
+abbrev pub TableStands : State → Disk → Type 0
+TableStands s d = s.on ≡ true → Writable s × Tabulates s d.shows

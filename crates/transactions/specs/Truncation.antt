@@ -1,13 +1,12 @@
 -- Truncation: which pages are dirty, its tests, its calls on the device, and what it answers and leaves.
-use Rattle.std.specs.Prelude.{◌≡◌, ℕ, zero, suc, ◌+◌, ◌-◌, ◌*◌, Bool, true, false, cond, not, ◌≢◌, ◌⊎◌, List, [], ◌∷◌, ◌++◌, map, length, take, drop, Some, None, Ok, Err, Result, ◌==◌, nat_le, nat_lt}
+use Rattle.std.specs.Prelude.{◌≡◌, ℕ, zero, suc, ◌+◌, ◌-◌, ◌*◌, Bool, true, false, cond, not, ◌≢◌, ◌⊎◌, List, [], ◌∷◌, ◌++◌, map, length, take, drop, Some, None, Ok, Err, Result, ◌==◌, nat_lt}
 use Rattle.arrayvec.specs.ArrayVec.{array_vec_len}
 use Rattle.device.specs.declared.fault.DeviceFault.TheVariants.{Power}
 use Rattle.device.specs.Disk.{Disk, Shown}
-use Rattle.device.specs.Meaning.{Failed}
 use Rattle.device.specs.Trace.{Act, settled, Done, CutShort}
 use Rattle.record.specs.Entry.{Entry}
 use Rattle.journal.specs.Log.{log}
-use Rattle.journal.specs.Pages.{names, covers, in_log}
+use Rattle.journal.specs.Pages.{names, covers, in_log, unsaid}
 use Rattle.durability.specs.Items.{Item, appending, recorded}
 use Rattle.durability.specs.Promises.{homing, marking}
 use Rattle.transactions.specs.declared.fault.StoreFault.{StoreFault}
@@ -88,10 +87,12 @@ pub record TruncatesNothing (s : State) (d : Disk) (k : ℕ) (s' : State) (e : D
   pub state : s' ≡ s
   pub device : e ≡ d
 
--- Once so many page records and the mark are written: the log begins at the mark and ends there, and nothing waits.
+-- Once so many page records and the mark are written: the log begins at the mark and ends there, nothing waits, and no
+-- page is named.
 pub record Truncated (s : State) (due : ℕ) (s' : State) : Type 0 where
   pub log : StandsAt s'.log s.log.places (covered_to s due + 1) (covered_to s due + 1) s.log.ordinal
   pub empty : array_vec_len s'.spool ≡ 0
+  pub pages : s'.pages ≡ unsaid
   pub image : s'.image ≡ s.image
   pub busy : s'.busy ≡ s.busy
   pub on : s'.on ≡ true
@@ -103,26 +104,18 @@ pub record TruncatesPages (s : State) (d : Disk) (k : ℕ) (s' : State) (e : Dis
   pub done : Done d (truncation s d.shows) e
   pub state : Truncated s (length (due_pages s d.shows)) s'
 
--- Power failed while the live log was read, after the tests that come before that passed. Nothing was written.
-pub record CutReading (s : State) (d : Disk) (o : ℕ) (e : Disk) : Type 0 where
-  pub passes : first_fit (off s ∷ busy s ∷ serials s 0 ∷ []) ≡ None
-  pub cut : Failed d o e
-
--- Power failed in a call of the plan, after all tests passed.
-pub record CutWritingHome (s : State) (d : Disk) (o : ℕ) (e : Disk) : Type 0 where
+-- Power failed in a call of the plan, after all tests passed. The store is off, and its memory as it was.
+pub record TruncateCut (s : State) (d : Disk) (f : StoreFault) (s' : State) (e : Disk) : Type 0 where
   pub passes : first_fit (truncate_rows s (length (due_pages s d.shows))) ≡ None
   pub some : dirty_pages s d.shows ≢ []
-  pub cut : CutShort d (truncation s d.shows) o e
-
--- Power failed: while the live log was read, or later. The store is off, and its memory as it was.
-pub record TruncateCut (s : State) (d : Disk) (f : StoreFault) (s' : State) (e : Disk) : Type 0 where
   pub origin : ℕ
   pub fault : f ≡ Device (Power origin)
-  pub cut : CutReading s d origin e ⊎ CutWritingHome s d origin e
+  pub cut : CutShort d (truncation s d.shows) origin e
   pub image : s'.image ≡ s.image
   pub off : s'.on ≡ false
 
--- Once the dirty pages are known: too little log refuses, and nothing moves; else they go home, or power cuts that.
+-- The last of the tests, and what follows: too little log refuses, and nothing moves; else dirty pages go home, or
+-- power cuts that.
 abbrev pub PagesAnswer : State → Disk → Result ℕ StoreFault → State → Disk → Type 0
 PagesAnswer s d (Ok k) s' e =
     (first_fit (crowded s (length (due_pages s d.shows)) ∷ []) ≡ None) × (TruncatesNothing s d k s' e ⊎ TruncatesPages s d k s' e)

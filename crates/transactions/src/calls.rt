@@ -1,11 +1,12 @@
-// The calls that write, over the device and the state. Each asks that the log lies on the device: a store is off
-// while it writes, and its type says so only of one that is on. That pieces are those of the open transaction is asked
-// too: they are cut before the checks, and neither holds the other.
+// The calls that write, over the device and the state. Each asks that the log lies on the device and what the page table
+// says: a store is off while it writes, and its type says so only of one that is on. That pieces are those of the open
+// transaction is asked too: they are cut before the checks, and neither holds the other.
 ghost use Rattle.std.specs.Prelude.{◌≡◌, ◌+◌, true, ◌≢◌, [], ◌++◌, None};
 ghost use Rattle.arrayvec.specs.ArrayVec.{array_vec_len};
 ghost use Rattle.device.specs.Trace.{Tries};
 ghost use Rattle.image.specs.Calls.{declared};
 ghost use Rattle.transactions.specs.Calls.{Flushes, Commits, writing};
+ghost use Rattle.transactions.specs.Pages.{TableStands};
 ghost use Rattle.transactions.specs.Rows.{first_fit, commit_rows};
 ghost use Rattle.transactions.specs.State.{OnLog, LiesOn, spooled, own};
 ghost use Rattle.transactions.specs.Steps.{PiecesOf, PartsAnswer, PiecesAnswer};
@@ -40,8 +41,10 @@ fn commit_out<D: Device>(device: &mut D, state: &State, pieces: &Pieces) -> Resu
 
 // Writes the spool; an empty one writes nothing.
 pub(crate) fn flush_store<D: Device>(device: &mut D, state: &mut State) -> Result<usize, StoreFault>
-    requires { LiesOn state.old (D.Device.disk device.old) }
-    ensures { Flushes state.old (D.Device.disk device.old) result state.new (D.Device.disk device.new) }
+    requires lies { LiesOn state.old (D.Device.disk device.old) }
+    requires table { TableStands state.old (D.Device.disk device.old) }
+    ensures flushes { Flushes state.old (D.Device.disk device.old) result state.new (D.Device.disk device.new) }
+    ensures table { TableStands state.new (D.Device.disk device.new) }
 {
     state.awake()?;
     if state.spool.is_empty() {
@@ -62,7 +65,10 @@ fn commit_flushed<D: Device>(
     requires passes { first_fit (commit_rows state.old (array_vec_len pieces.now.items) true) ≡ None }
     requires some { declared state.old.image ≢ [] }
     requires lies { OnLog state.old (D.Device.disk device.old) }
-    ensures { PartsAnswer state.old (D.Device.disk device.old) true result state.new (D.Device.disk device.new) }
+    requires on { state.old.on ≡ true }
+    requires table { TableStands state.old (D.Device.disk device.old) }
+    ensures answer { PartsAnswer state.old (D.Device.disk device.old) true result state.new (D.Device.disk device.new) }
+    ensures table { TableStands state.new (D.Device.disk device.new) }
 {
     state.on = false;
     commit_out(device, state, pieces)?;
@@ -80,7 +86,9 @@ fn commit_pieces<D: Device>(
     requires some { declared state.old.image ≢ [] }
     requires on { state.old.on ≡ true }
     requires lies { OnLog state.old (D.Device.disk device.old) }
-    ensures { PiecesAnswer state.old (D.Device.disk device.old) flush result state.new (D.Device.disk device.new) }
+    requires table { TableStands state.old (D.Device.disk device.old) }
+    ensures answer { PiecesAnswer state.old (D.Device.disk device.old) flush result state.new (D.Device.disk device.new) }
+    ensures table { TableStands state.new (D.Device.disk device.new) }
 {
     if let Err(fault) = state.may_commit(pieces, flush) {
         state.undo();
@@ -100,8 +108,10 @@ pub(crate) fn commit_store<D: Device>(
     number: u64,
     flush: bool,
 ) -> Result<(u64, usize), StoreFault>
-    requires { LiesOn state.old (D.Device.disk device.old) }
-    ensures { Commits state.old (D.Device.disk device.old) number flush result state.new (D.Device.disk device.new) }
+    requires lies { LiesOn state.old (D.Device.disk device.old) }
+    requires table { TableStands state.old (D.Device.disk device.old) }
+    ensures commits { Commits state.old (D.Device.disk device.old) number flush result state.new (D.Device.disk device.new) }
+    ensures table { TableStands state.new (D.Device.disk device.new) }
 {
     state.shown(number)?;
     if state.image.is_clean() {

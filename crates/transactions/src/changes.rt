@@ -1,20 +1,32 @@
 // The changes of a store's state, apart from the device.
-ghost use Rattle.std.specs.Prelude.{◌≡◌, ◌+◌, ◌^◌, ◌<◌, ◌≤◌, true, ◌++◌, length};
+ghost use Rattle.std.specs.Prelude.{◌≡◌, ℕ, ◌+◌, ◌^◌, ◌<◌, ◌≤◌, true, List, ◌++◌, length};
 ghost use Rattle.arrayvec.specs.ArrayVec.{array_vec_len};
 ghost use Rattle.transactions.specs.Calls.{Undone, Written, SpooledUp};
+ghost use Rattle.transactions.specs.Pages.{Gains};
+ghost use Rattle.transactions.specs.Parts.{parts};
 ghost use Rattle.transactions.specs.State.{spooled, own};
 ghost use Rattle.transactions.specs.Steps.{Over, PiecesOf};
 ghost use Rattle.transactions.specs.Truncation.{Truncated};
 
-use crate::pages::PageNumbers;
 use crate::spooling::take_in;
 use crate::state::State;
-use image::Pieces;
+use image::{PAGE, Pieces};
+use journal::PageTable;
+
+// Notes what the records of these pieces say of their pages.
+fn note_pieces(table: &mut PageTable, pieces: &Pieces)
+    ensures { (ordinal : ℕ) (memory : List ℕ) → length memory ≡ 6144 → Gains (parts ordinal memory pieces.now.items.items) table.old table.new }
+{
+    for piece in pieces.items.iter() {
+        table.note(piece.page(), piece.size == PAGE);
+    }
+}
 
 impl State {
     // Ends the transaction with the memory as at begin.
     pub(crate) fn undo(&mut self)
-        ensures { Undone self.old self.new }
+        ensures undone { Undone self.old self.new }
+        ensures pages { self.new.pages ≡ self.old.pages }
     {
         self.image.restore();
         self.busy = false;
@@ -25,6 +37,7 @@ impl State {
         ensures count { result ≡ array_vec_len self.old.spool }
         ensures written { Written self.old (spooled self.old) self.old.log.ordinal self.new }
         ensures same { (self.new.image ≡ self.old.image) × (self.new.busy ≡ self.old.busy) }
+        ensures pages { self.new.pages ≡ self.old.pages }
     {
         let count = self.spool.len();
         self.log.last = self.written_to();
@@ -33,14 +46,16 @@ impl State {
         count
     }
 
-    // All that waited, the records of these pages and a mark are written: the log begins at the mark.
-    pub(crate) fn truncated(&mut self, due: &PageNumbers)
+    // All that waited, so many page records and a mark are written: the log begins at the mark, and names no page.
+    pub(crate) fn truncated(&mut self, due: usize)
+        requires few { due ≤ 64 }
         requires bounded { self.old.log.last + array_vec_len self.old.spool + 65 < 2 ^ 63 }
-        ensures { Truncated self.old (array_vec_len due.now.items) self.new }
+        ensures { Truncated self.old due self.new }
     {
-        self.log.last = self.written_to() + due.items.len() as u64 + 1;
+        self.log.last = self.written_to() + due as u64 + 1;
         self.log.low = self.log.last;
         self.spool.clear();
+        self.pages = PageTable::new();
         self.on = true;
     }
 
@@ -52,10 +67,12 @@ impl State {
         ensures answer { result ≡ (self.old.log.ordinal + 1, length (own self.old)) }
         ensures written { Written self.old (spooled self.old ++ own self.old) (self.old.log.ordinal + 1) self.new }
         ensures over { Over self.old self.new }
+        ensures pages { Gains (own self.old) self.old.pages self.new.pages }
     {
         let records = pieces.items.len();
         self.log.last = self.written_to() + records as u64;
         self.spool.clear();
+        note_pieces(&mut self.pages, pieces);
         self.log.ordinal += 1;
         self.image.keep();
         self.busy = false;
@@ -73,9 +90,11 @@ impl State {
         ensures answer { result ≡ (self.old.log.ordinal + 1, length (own self.old)) }
         ensures spooled { SpooledUp self.old (own self.old) (self.old.log.ordinal + 1) self.new }
         ensures over { Over self.old self.new }
+        ensures pages { Gains (own self.old) self.old.pages self.new.pages }
     {
         let ordinal = self.log.ordinal + 1;
         take_in(&mut self.spool, ordinal, &self.image.memory, pieces);
+        note_pieces(&mut self.pages, pieces);
         self.log.ordinal = ordinal;
         self.image.keep();
         self.busy = false;

@@ -1,15 +1,15 @@
 // Writing pages: their records into the log, and the pages themselves home. That a page is below 64 is asked of one,
-// and a list of them holds it: a type for one would be made of an index and taken apart at once.
-ghost use Rattle.std.specs.Prelude.{◌≡◌, ◌+◌, ◌%◌, ◌^◌, ◌<◌, ◌≤◌, [], ◌∷◌, map};
-ghost use Rattle.arrayvec.specs.ArrayVec.{array_vec_len};
+// and those of a set are: a type for one would be made of an index and taken apart at once.
+ghost use Rattle.std.specs.Prelude.{◌≡◌, ◌+◌, ◌%◌, ◌^◌, ◌<◌, ◌≤◌, [], ◌∷◌, map, length};
 ghost use Rattle.device.specs.Trace.{Tries, wrote};
 ghost use Rattle.durability.specs.Items.{appending, recorded};
 ghost use Rattle.durability.specs.Promises.{home_of, homing};
 ghost use Rattle.record.specs.Entry.{laid_out};
+ghost use Rattle.transactions.specs.Pages.{members};
 ghost use Rattle.transactions.specs.Truncation.{page_item};
 
 use crate::log::Log;
-use crate::pages::PageNumbers;
+use crate::pages::PageSet;
 use device::{Device, DeviceFault, SECTOR};
 use image::{MEMORY, PAGE};
 use record::Record;
@@ -42,14 +42,16 @@ pub(crate) fn write_pages<D: Device>(
     log: &Log,
     last: u64,
     memory: &[u8; MEMORY],
-    pages: &PageNumbers,
+    pages: PageSet,
 ) -> Result<(), DeviceFault>
-    requires bounded { last + array_vec_len pages.now.items < 2 ^ 63 }
+    requires bounded { last + length (members pages.bits) < 2 ^ 63 }
     requires room { log.now.places ≤ (D.Device.disk device.old).plate.sectors }
-    ensures { Tries (D.Device.disk device.old) (appending log.now.places log.now.low last (map (page_item log.now.ordinal memory.now) pages.now.items.items)) result (D.Device.disk device.new) }
+    ensures { Tries (D.Device.disk device.old) (appending log.now.places log.now.low last (map (page_item log.now.ordinal memory.now) (members pages.bits))) result (D.Device.disk device.new) }
 {
-    for (i, page) in pages.items.iter().enumerate() {
-        write_page(device, log, last + 1 + i as u64, memory, *page)?;
+    let mut serial = last;
+    for page in pages.iter() {
+        serial += 1;
+        write_page(device, log, serial, memory, page)?;
     }
     Ok(())
 }
@@ -85,14 +87,14 @@ pub(crate) fn write_homes<D: Device>(
     device: &mut D,
     places: usize,
     memory: &[u8; MEMORY],
-    pages: &PageNumbers,
+    pages: PageSet,
 ) -> Result<(), DeviceFault>
     requires few { places ≤ 1024 }
     requires room { places + 64 ≤ (D.Device.disk device.old).plate.sectors }
-    ensures { Tries (D.Device.disk device.old) (homing places memory.now pages.now.items.items) result (D.Device.disk device.new) }
+    ensures { Tries (D.Device.disk device.old) (homing places memory.now (members pages.bits)) result (D.Device.disk device.new) }
 {
-    for page in pages.items.iter() {
-        write_home(device, places, memory, *page)?;
+    for page in pages.iter() {
+        write_home(device, places, memory, page)?;
     }
     Ok(())
 }

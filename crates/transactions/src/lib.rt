@@ -14,7 +14,6 @@ mod spool;
 mod spooling;
 mod state;
 mod store;
-mod surveying;
 mod token;
 mod truncation;
 mod writing;

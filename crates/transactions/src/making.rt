@@ -1,5 +1,7 @@
 // A store's state as a format or an opening makes it.
 ghost use Rattle.std.specs.Prelude.{◌≡◌, false, replicate};
+ghost use Rattle.journal.specs.Pages.{unsaid};
+ghost use Rattle.transactions.specs.Pages.{TableStands};
 ghost use Rattle.transactions.specs.State.{Formatted, Opened, Idle};
 
 use crate::fault::StoreFault;
@@ -8,6 +10,7 @@ use crate::spool::Spool;
 use crate::state::State;
 use device::Device;
 use image::{Image, MEMORY};
+use journal::PageTable;
 use record::PAGES;
 use recovery::{format_log, open_log};
 
@@ -16,6 +19,7 @@ pub(crate) fn off() -> State
     ensures off { result.on ≡ false }
     ensures zeros { result.image.memory ≡ replicate 6144 0 }
     ensures idle { Idle result }
+    ensures table { result.pages ≡ unsaid }
 {
     State {
         image: Image::zeros(),
@@ -26,6 +30,7 @@ pub(crate) fn off() -> State
             last: 0,
             ordinal: 0,
         },
+        pages: PageTable::new(),
         busy: false,
         on: false,
     }
@@ -36,7 +41,9 @@ pub(crate) fn format_into<D: Device>(device: &mut D, state: &mut State) -> Resul
     requires off { state.old.on ≡ false }
     requires zeros { state.old.image.memory ≡ replicate 6144 0 }
     requires idle { Idle state.old }
-    ensures { Formatted (D.Device.disk device.old) result (D.Device.disk device.new) state.new }
+    requires table { state.old.pages ≡ unsaid }
+    ensures formatted { Formatted (D.Device.disk device.old) result (D.Device.disk device.new) state.new }
+    ensures table { TableStands state.new (D.Device.disk device.new) }
 {
     let places = format_log(device)?;
     state.log = Log {
@@ -56,7 +63,8 @@ pub(crate) fn open_into<D: Device>(
 ) -> Result<(u64, usize), StoreFault>
     requires off { state.old.on ≡ false }
     requires idle { Idle state.old }
-    ensures { Opened (D.Device.disk device.old) result (D.Device.disk device.new) state.new }
+    ensures opened { Opened (D.Device.disk device.old) result (D.Device.disk device.new) state.new }
+    ensures table { TableStands state.new (D.Device.disk device.new) }
 {
     let sectors = device.sectors();
     let mut memory = [0u8; MEMORY];
@@ -68,6 +76,7 @@ pub(crate) fn open_into<D: Device>(
         last: survey.last,
         ordinal: survey.ordinal,
     };
+    state.pages = survey.pages;
     state.on = true;
     Ok((survey.ordinal, strays))
 }

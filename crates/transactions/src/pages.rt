@@ -1,69 +1,76 @@
-// Which pages records name, and which they cover whole.
-ghost use Rattle.std.specs.Prelude.{◌≡◌, ◌<◌, ◌≤◌, slice_index, EachIndex};
-ghost use Rattle.arrayvec.specs.ArrayVec.{array_vec_len};
+// Sets of pages, and going over one.
+ghost use Rattle.std.specs.Prelude.{◌≡◌, ◌≤◌, ◌==◌, length};
+ghost use Rattle.transactions.specs.Pages.{members, due_of};
 
-use arrayvec::ArrayVec;
-use record::PAGES;
+use journal::PageTable;
 
-// What records say of a page: one names it, one covers it. Each is said and asked by itself, so that one enum of the
-// three that occur would be no plainer.
-#[derive(Clone, Copy, PartialEq, Eq, Debug, Default)]
-pub(crate) struct Page {
-    pub named: bool,
-    pub covered: bool,
+// Pages of the memory: bit p is 1 where page p is one of them.
+#[derive(Clone, Copy)]
+pub(crate) struct PageSet {
+    pub bits: u64,
 }
 
-// Pages of the memory by their numbers.
-#[derive(Drop)]
-pub(crate) struct PageNumbers {
-    pub items: ArrayVec<usize, PAGES>,
-    ghost few: { array_vec_len items ≤ 64 },
-    ghost inside: { EachIndex items.items (λ i. slice_index items.items i < 64) },
-}
-
-// The named pages, and those of them that are not covered, the lowest first.
-#[derive(Drop)]
-pub(crate) struct Dirty {
-    pub pages: PageNumbers,
-    pub due: PageNumbers,
-}
-
-impl Page {
-    ghost use Rattle.std.specs.Prelude.{true, if◌then◌else◌};
-
-    // What is said of the page once this is said too.
-    pub(crate) fn and(&self, said: Page) -> Page
-        ensures { result ≡ record { named = if self.now.named then true else said.named; covered = if self.now.covered then true else said.covered } }
+impl PageSet {
+    // The pages that records name.
+    pub(crate) fn dirty(table: &PageTable) -> PageSet
+        ensures { result.bits ≡ table.now.named }
     {
-        Page {
-            named: self.named || said.named,
-            covered: self.covered || said.covered,
+        PageSet { bits: table.named }
+    }
+
+    // Those of them that no record has whole.
+    pub(crate) fn due(table: &PageTable) -> PageSet
+        ensures { members result.bits ≡ due_of table.now }
+    {
+        PageSet {
+            bits: table.named & !table.covered,
         }
+    }
+
+    // Whether there are none.
+    pub(crate) fn is_empty(&self) -> bool
+        ensures { result ≡ (length (members self.now.bits) == 0) }
+    {
+        self.bits == 0
+    }
+
+    // How many there are.
+    pub(crate) fn len(&self) -> usize
+        ensures count { result ≡ length (members self.now.bits) }
+        ensures few { result ≤ 64 }
+    {
+        self.bits.count_ones() as usize
+    }
+
+    // The pages, the lowest first.
+    pub(crate) fn iter(&self) -> Pages
+        ensures { result.left ≡ self.now.bits }
+    {
+        Pages { left: self.bits }
     }
 }
 
-impl Dirty {
-    ghost use Rattle.transactions.specs.Pages.{named_in, needed};
-    ghost use Rattle.transactions.specs.Truncation.{chosen};
+// The pages of a set that were not given yet.
+#[derive(Drop)]
+pub(crate) struct Pages {
+    left: u64,
+}
 
-    // The pages of which so much is said.
-    pub(crate) fn of(pages: &[Page; PAGES]) -> Dirty
-        ensures pages { result.pages.items.items ≡ chosen (named_in pages.now) 0 64 }
-        ensures due { result.due.items.items ≡ chosen (needed pages.now) 0 64 }
-    {
-        let mut dirty = ArrayVec::new();
-        let mut due = ArrayVec::new();
-        for (page, said) in pages.iter().enumerate() {
-            if said.named {
-                dirty.push(page);
-                if !said.covered {
-                    due.push(page);
-                }
-            }
+impl Iterator for Pages {
+    ghost use Rattle.std.specs.Iterator.{YieldsFirst, item_count};
+
+    type Item = usize;
+
+    ghost next_gives = { YieldsFirst (λ s. members s.left) };
+
+    ghost remaining = { item_count (λ s. members s.left) };
+
+    fn next(&mut self) -> Option<usize> {
+        if self.left == 0 {
+            return None;
         }
-        Dirty {
-            pages: PageNumbers { items: dirty },
-            due: PageNumbers { items: due },
-        }
+        let page = self.left.trailing_zeros();
+        self.left &= !(1 << page);
+        Some(page as usize)
     }
 }

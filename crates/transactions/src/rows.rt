@@ -6,7 +6,6 @@ ghost use Rattle.transactions.specs.Steps.{Passes};
 ghost use Rattle.transactions.specs.Truncation.{crowded};
 
 use crate::fault::StoreFault;
-use crate::pages::PageNumbers;
 use crate::spool::SPOOL;
 use crate::state::State;
 use device::DeviceFault;
@@ -62,11 +61,12 @@ impl State {
         Ok(())
     }
 
-    // There is log for what waits, the records of these pages and a mark.
-    pub(crate) fn has_log(&self, due: &PageNumbers) -> Result<(), StoreFault>
-        ensures { Passes (first_fit (crowded self.now (array_vec_len due.now.items) ∷ [])) result }
+    // There is log for what waits, so many page records and a mark.
+    pub(crate) fn has_log(&self, due: usize) -> Result<(), StoreFault>
+        requires { due ≤ 64 }
+        ensures { Passes (first_fit (crowded self.now due ∷ [])) result }
     {
-        let needed = self.live() + (self.spool.len() + due.items.len() + 1) as u64;
+        let needed = self.live() + (self.spool.len() + due + 1) as u64;
         let room = self.log.places as u64;
         if needed > room {
             return Err(StoreFault::Full(needed - room));

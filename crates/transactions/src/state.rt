@@ -5,6 +5,7 @@ ghost use Rattle.arrayvec.specs.ArrayVec.{array_vec_len};
 use crate::log::Log;
 use crate::spool::Spool;
 use image::Image;
+use journal::PageTable;
 
 #[derive(Drop)]
 pub struct State {
@@ -12,6 +13,8 @@ pub struct State {
     pub image: Image,
     pub spool: Spool,
     pub log: Log,
+    // What the live records and those that wait say of pages, while the store is on.
+    pub pages: PageTable,
     // A transaction is open. Each pair of this and the next occurs, so an enum would name all four.
     pub busy: bool,
     // A store is off after failing power, and after a format or an opening that was refused.

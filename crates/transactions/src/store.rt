@@ -1,6 +1,7 @@
 // A store over a device, and its calls.
 ghost use Rattle.std.specs.Prelude.{◌≡◌};
 ghost use Rattle.transactions.specs.State.{LiesOn};
+ghost use Rattle.transactions.specs.Pages.{TableStands};
 
 use crate::calls::{commit_store, flush_store};
 use crate::fault::StoreFault;
@@ -18,6 +19,8 @@ pub struct Store<D: Device> {
     device: D,
     state: State,
     pub ghost lies: { LiesOn state (D.Device.disk device) },
+    // While it is on, its page table says what its live records and those that wait say.
+    pub ghost table: { TableStands state (D.Device.disk device) },
 }
 
 impl<D: Device> Store<D> {

@@ -1,9 +1,12 @@
 -- The records are written, and the state says so.
-use Rattle.std.proofs.Common.{true, ◌++◌, refl, arith}
+use Rattle.std.proofs.Common.{◌+◌, true, ◌++◌, sym, refl, arith}
 use Rattle.std.proofs.lemmas.Result.{err_from_is_err_and}
+use Rattle.transactions.specs.Calls.{Written}
 use Rattle.transactions.specs.State.{spooled, own}
 use Rattle.arrayvec.specs.ArrayVec.{array_vec_len}
 use Rattle.transactions.proofs.Plans.{roomy, writing_cut, some_pieces, passes_own}
+use Rattle.transactions.proofs.Loops.{length_of_own}
+use Rattle.transactions.proofs.Tabling.{off_stands, fitted, committed_stands}
 use Rattle.transactions.proofs.calls.commit_flushed.Goals as goal
 
 pub returns-in_err-commit_out : goal.returns-in_err-commit_out
@@ -12,10 +15,13 @@ returns-in_err-commit_out g c =
     let p = err_from_is_err_and c.from_residual.result c.from_residual.ensures.1 in
     rw (p.1, p.2)
     record {
-      some = c.requires.some;
-      passes = passes_own s c.args.pieces.now true c.requires.pieces c.requires.passes;
-      flushing = refl;
-      cut = writing_cut s _ (g.D.Device.disk c.args.device.now) (g.D.Device.disk c.commit_out.new.device) (spooled s ++ own s) c.in_err-commit_out.field-0.0 c.in_err-commit_out.ensures refl refl;
+      answer = record {
+        some = c.requires.some;
+        passes = passes_own s c.args.pieces.now true c.requires.pieces c.requires.passes;
+        flushing = refl;
+        cut = writing_cut s _ (g.D.Device.disk c.args.device.now) (g.D.Device.disk c.commit_out.new.device) (spooled s ++ own s) c.in_err-commit_out.field-0.0 c.in_err-commit_out.ensures refl refl;
+      };
+      table = off_stands _ (g.D.Device.disk c.commit_out.new.device) refl;
     }
 
 pub committed-requires : goal.committed-requires
@@ -31,21 +37,29 @@ committed-requires g c =
 pub returns : goal.returns
 returns g c =
     let s = c.args.state.now in
+    let ps = c.args.pieces.now in
+    let d = g.D.Device.disk c.args.device.now in
+    let e = g.D.Device.disk c.commit_out.new.device in
     let done = c.committed.ensures in
     let at = done.written.log in
     let image = done.over.image in
+    let stands = c.requires.table c.requires.on in
+    let written : Written s (spooled s ++ own s) (s.log.ordinal + 1) c.committed.new.self =
     record {
-      some = c.requires.some;
-      passes = passes_own s c.args.pieces.now true c.requires.pieces c.requires.passes;
-      answer = done.answer;
-      enters = (
-        c.in_ok-commit_out.ensures,
-        record {
-          log = record { places_is = at.places_is; low_is = at.low_is; last_is = at.last_is; ordinal_is = at.ordinal_is };
-          empty = done.written.empty;
-          on = done.written.on;
-        },
-      );
-      image = record { memory = image.memory; before = image.before; clean = image.clean };
-      free = done.over.free;
+      log = record { places_is = at.places_is; low_is = at.low_is; last_is = at.last_is; ordinal_is = at.ordinal_is };
+      empty = done.written.empty;
+      on = done.written.on;
+    } in
+    let fit = fitted s (array_vec_len ps.items) true (sym (length_of_own s ps c.requires.pieces)) (some_pieces s ps c.requires.pieces c.requires.some)
+    (roomy s (array_vec_len ps.items) true c.requires.passes) in
+    record {
+      answer = record {
+        some = c.requires.some;
+        passes = passes_own s ps true c.requires.pieces c.requires.passes;
+        answer = done.answer;
+        enters = (c.in_ok-commit_out.ensures, written);
+        image = record { memory = image.memory; before = image.before; clean = image.clean };
+        free = done.over.free;
+      };
+      table = λ _. committed_stands s c.committed.new.self d e stands.0 stands.1 fit c.in_ok-commit_out.ensures written done.pages;
     }

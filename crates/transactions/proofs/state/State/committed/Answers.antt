@@ -1,6 +1,8 @@
 -- The last serial goes up by what waited and by the transaction's own records.
-use Rattle.std.proofs.Common.{ℕ, ◌+◌, length, sym, refl, ap, ◌∙◌, arith}
-use Rattle.transactions.proofs.Loops.{length_of_own, length_all}
+use Rattle.std.proofs.Common.{ℕ, ◌+◌, List, length, sym, refl, ap, ◌∙◌, subst, arith}
+use Rattle.durability.specs.Items.{Item}
+use Rattle.transactions.specs.Pages.{Gains}
+use Rattle.transactions.proofs.Loops.{own_is, length_of_own, length_all}
 use Rattle.transactions.proofs.state.State.committed.Goals as goal
 
 pub returns : goal.returns
@@ -16,4 +18,7 @@ returns c =
             on = refl;
           };
       over = record { image = c.keep.ensures; free = refl };
+      pages =
+          subst (λ (xs : List Item). Gains xs s.pages c.note_pieces.new.table) (own_is s ps c.requires.pieces)
+          (c.note_pieces.ensures (s.log.ordinal + 1) s.image.memory s.image.whole);
     }

@@ -1,6 +1,7 @@
 -- The spool grows by the transaction's own records.
-use Rattle.std.proofs.Common.{ℕ, ◌+◌, List, ◌++◌, sym, refl, ap, ◌∙◌}
+use Rattle.std.proofs.Common.{ℕ, ◌+◌, List, ◌++◌, sym, refl, ap, ◌∙◌, subst}
 use Rattle.durability.specs.Items.{Item}
+use Rattle.transactions.specs.Pages.{Gains}
 use Rattle.transactions.specs.Parts.{waiting}
 use Rattle.transactions.proofs.Loops.{own_is, length_of_own}
 use Rattle.transactions.proofs.state.State.spooled_up.Goals as goal
@@ -18,4 +19,7 @@ returns c =
             on = c.requires.on;
           };
       over = record { image = record { memory = c.keep.ensures.memory; before = c.keep.ensures.before; clean = c.keep.ensures.clean }; free = refl };
+      pages =
+          subst (λ (xs : List Item). Gains xs s.pages c.note_pieces.new.table) (own_is s ps c.requires.pieces)
+          (c.note_pieces.ensures (s.log.ordinal + 1) s.image.memory s.image.whole);
     }

@@ -1,4 +1,4 @@
--- The log lies where it lay, or the store is off.
+-- The log lies where it lay, or the store is off; the table says what it is to say.
 use Rattle.transactions.proofs.Lying.{flush_lies}
 use Rattle.transactions.proofs.store.Store.flush.Goals as goal
 
@@ -6,4 +6,4 @@ pub invariant_of-self : goal.invariant_of-self
 invariant_of-self g c =
     let s = c.args.self.now in
     let t = c.flush_store.new in
-    record { lies = flush_lies s.state t.state (g.D.Device.disk s.device) (g.D.Device.disk t.device) c.flush_store.result s.lies c.flush_store.ensures }
+    record { lies = flush_lies s.state t.state (g.D.Device.disk s.device) (g.D.Device.disk t.device) c.flush_store.result s.lies c.flush_store.ensures.flushes; table = c.flush_store.ensures.table }
