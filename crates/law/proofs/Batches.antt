@@ -8,6 +8,7 @@ use Rattle.durability.specs.Promises.{Split}
 use Rattle.image.specs.declared.run.Piece.{Piece}
 use Rattle.image.specs.Cut.{cut_runs, laid, FitsPage, AllPieces, PiecesLay, PiecesFit, PiecesNone}
 use Rattle.transactions.specs.Parts.{kind_before, parts}
+use Rattle.transactions.proofs.Fitting.{appendable_append, appendable_parts}
 use Rattle.transactions.proofs.Loops.{length_parts}
 use Rattle.law.specs.Transactions.{Transaction, changed, applied_all, records_of, batch, Proper, AllProper}
 
@@ -24,12 +25,6 @@ ordinal_append o (x ∷ xs) ys = ordinal_append x.ordinal xs ys
 kind_append : (k : ℕ) (xs ys : List Item) → kind_after k (xs ++ ys) ≡ kind_after (kind_after k xs) ys
 kind_append k [] ys = refl
 kind_append k (x ∷ xs) ys = kind_append x.kind xs ys
-
-appendable_append : (last : ℕ) (xs ys : List Item) → Appendable last xs → Appendable (last + length xs) ys → Appendable last (xs ++ ys)
-appendable_append last [] ys a b = subst (λ (s : ℕ). Appendable s ys) (add-zero last) b
-appendable_append last (x ∷ xs) ys (kind, fits, ordinal, a) b =
-    let e : last + suc (length xs) ≡ last + 1 + length xs = omega arith in
-    (kind, fits, ordinal, appendable_append (last + 1) xs ys a (subst (λ (s : ℕ). Appendable s ys) e b))
 
 -- the parts of one transaction
 
@@ -52,33 +47,6 @@ kind_parts : (k o : ℕ) (m : List ℕ) (ps : List Piece) → 1 ≤ length ps �
 kind_parts k o m [] h = absurd (omega arith)
 kind_parts k o m (p ∷ []) h = refl
 kind_parts k o m (p ∷ q ∷ ps) h = kind_parts 1 o m (q ∷ ps) (omega arith)
-
-kind_bounds : (ps : List Piece) → (1 ≤ kind_before ps) × (kind_before ps ≤ 2)
-kind_bounds [] = (omega arith, omega arith)
-kind_bounds (p ∷ ps) = (omega arith, omega arith)
-
--- a piece lies in the memory, so its part has all its bytes
-long_part : (m : List ℕ) (p : Piece) → length m ≡ 6144 → FitsPage p → length (take p.size (drop p.start m)) ≡ p.size
-long_part m p whole f =
-    let e = div-add-mod' p.start 96 in
-    simp (length-take, length-drop) (omega (arith, f.page, f.within, e, whole))
-
-fits_part : (m : List ℕ) (p : Piece) (k : ℕ) → (1 ≤ k) × (k ≤ 2) → length m ≡ 6144 → FitsPage p
-    → Fits k (p.start / 96) (p.start % 96) (length (take p.size (drop p.start m)))
-fits_part m p k (a, b) whole f =
-    let long = long_part m p whole f in
-    record {
-      known = (a, omega arith);
-      piece = λ h. (f.page, omega (arith, long, f.some), omega (arith, long, f.within));
-      whole = λ e. absurd (omega arith);
-      mark = λ e. absurd (omega arith);
-    }
-
-appendable_parts : (last o : ℕ) (m : List ℕ) (ps : List Piece) → o ≤ last → length m ≡ 6144 → AllPieces ps → Appendable last (parts o m ps)
-appendable_parts last o m [] h whole fit = tt
-appendable_parts last o m (p ∷ ps) h whole (f, fit) =
-    let k = kind_bounds ps in
-    (omega arith, fits_part m p (kind_before ps) k whole f, h, appendable_parts (last + 1) o m ps (omega arith) whole fit)
 
 -- What begins with part of a transaction's records, and ends with one that ends a transaction, has all of them.
 past_parts : (o : ℕ) (m : List ℕ) (ps : List Piece) (k : ℕ) (first rest ys : List Item) → first ++ rest ≡ parts o m ps ++ ys → k < 2 → 2 ≤ kind_after k first

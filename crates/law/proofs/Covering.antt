@@ -14,8 +14,8 @@ use Rattle.durability.proofs.Growth.{Present, at_bounds, item_of}
 use Rattle.transactions.specs.declared.state.State.{State}
 use Rattle.transactions.specs.State.{live, spooled}
 use Rattle.transactions.specs.Truncation.{in_items, is_dirty, is_due, said_of, due_pages, page_item, covered_to}
-use Rattle.transactions.proofs.Flagging.{chosen_has}
-use Rattle.law.proofs.Pages.{chosen_passes, long_page}
+use Rattle.transactions.proofs.Flagging.{chosen_has, chosen_passes}
+use Rattle.law.proofs.Pages.{long_page}
 use Rattle.law.proofs.Says.{or_yes, or_left, or_right, log_yes, log_has, items_yes, items_has, page_at, at_page, names_page, covers_page}
 
 -- The records of the pages that are due.

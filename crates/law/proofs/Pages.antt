@@ -14,30 +14,9 @@ abbrev pub Inside : List ℕ → Type 0
 Inside [] = Unit {0}
 Inside (p ∷ ps) = (p < 64) × Inside ps
 
--- those that a test chooses of 64 are
-
-pub chosen_passes : (test : ℕ → Bool) (i k p : ℕ) → Among p (chosen test i k) → (p < i + k) × (test p ≡ true)
-unfolding chosen
-chosen_passes test i zero p h = absurd h
-chosen_passes test i (suc k) p h = go (test i) refl (λ rest. let r = chosen_passes test (i + 1) k p rest in (omega (arith, r.0), r.1)) h
-  where
-    go : (c : Bool) → test i ≡ c → (Among p (chosen test (i + 1) k) → (p < i + suc k) × (test p ≡ true)) → Among p (cond c (i ∷ chosen test (i + 1) k) (chosen test (i + 1) k)) → (p < i + suc k) × (test p ≡ true)
-    go true e later (inl same) = (omega (arith, same), ap test same ∙ e)
-    go true e later (inr rest) = later rest
-    go false e later rest = later rest
-
 pub inside_all : (ps : List ℕ) → ((p : ℕ) → Among p ps → p < 64) → Inside ps
 inside_all [] h = tt
 inside_all (p ∷ ps) h = (h p (inl refl), inside_all ps (λ q k. h q (inr k)))
-
-pub chosen_few : (test : ℕ → Bool) (i k : ℕ) → length (chosen test i k) ≤ k
-unfolding chosen
-chosen_few test i zero = omega arith
-chosen_few test i (suc k) = go (test i) (chosen_few test (i + 1) k)
-  where
-    go : (c : Bool) → length (chosen test (i + 1) k) ≤ k → length (cond c (i ∷ chosen test (i + 1) k) (chosen test (i + 1) k)) ≤ suc k
-    go true h = omega arith
-    go false h = omega arith
 
 module _ (o : ℕ) (m : List ℕ) (whole : length m ≡ 6144) where
   pub long_page : (p : ℕ) → p < 64 → length (take 96 (drop (p * 96) m)) ≡ 96

@@ -28,11 +28,11 @@ use Rattle.transactions.specs.Calls.{writing}
 use Rattle.transactions.specs.Rows.{first_fit, off, busy, serials}
 use Rattle.transactions.specs.State.{live, spooled}
 use Rattle.transactions.specs.Truncation.{is_dirty, is_due, dirty_pages, due_pages, crowded, truncate_rows, flushing, covering, going_home}
-use Rattle.transactions.proofs.Flagging.{chosen_has}
+use Rattle.transactions.proofs.Flagging.{chosen_has, chosen_passes, chosen_few}
 use Rattle.law.specs.Transactions.{made_of}
 use Rattle.law.proofs.History.{History, Resting, Safe}
 use Rattle.law.proofs.Committing.{all_kept, no_fit, long_spool, none_spooled, empty_kept, flush_firm, flush_says}
-use Rattle.law.proofs.Pages.{Inside, inside_all, chosen_passes, chosen_few, appendable_pages, kind_pages, ordinal_pages, put_pages, first_pages}
+use Rattle.law.proofs.Pages.{Inside, inside_all, appendable_pages, kind_pages, ordinal_pages, put_pages, first_pages}
 use Rattle.law.proofs.Says.{unnamed, replayed_clean, names_of}
 use Rattle.law.proofs.Covering.{due_items, flushed_to, end_of, Holds, named_dirty, covered_all, home_byte}
 
