@@ -1,21 +1,19 @@
 -- What each call of a bench device does, on every way out.
 use Rattle.std.specs.Prelude.{◌≡◌, ℕ, ◌*◌, ◌<◌, ◌≤◌, Bool, true, false, ◌≢◌, ◌⊎◌, List, length, Ok, Err, Result, slice_set}
-use Rattle.std.specs.Simd.{first_chunks}
 use Rattle.device.specs.declared.fault.DeviceFault.{DeviceFault}
 use Rattle.device.specs.declared.fault.DeviceFault.TheVariants.{Power, Misaddressed, Unfit, Spoiled}
 use Rattle.device.specs.Meaning.{Answer}
 use Rattle.bench.specs.declared.Bench.{Bench}
-use Rattle.bench.specs.Plan.{Known}
-use Rattle.bench.specs.Card.{Card, card, sectors, cell, flag, code, next}
+use Rattle.bench.specs.Plan.{Fit}
+use Rattle.bench.specs.Card.{Card, card, sectors, cell, with_cell, flag, code, next}
 
--- These bytes, flags and plan make a bench device.
-pub record Fit (bytes flags plan : List ℕ) : Type 0 where
-  pub whole : length bytes ≡ 128 * length flags
-  pub codes : Known plan
+-- The device over these, which is on and has taken no code.
+abbrev pub fresh : List ℕ → List ℕ → List ℕ → ℕ → Card
+fresh bytes flags plan origin = record { bytes = bytes; flags = flags; codes = plan; on = true; origin = origin }
 
--- A bench device made of these: each 128 bytes are a sector, it is on, and no code is taken.
+-- Such a device was made, or these make none.
 abbrev pub Made : List ℕ → List ℕ → List ℕ → ℕ → Result Bench DeviceFault → Type 0
-Made bytes flags plan origin (Ok b) = Fit bytes flags plan × (card b ≡ record { cells = first_chunks 128 (length flags) bytes; flags = flags; codes = plan; on = true; origin = origin })
+Made bytes flags plan origin (Ok b) = Fit bytes flags plan × (card b ≡ fresh bytes flags plan origin)
 Made bytes flags plan origin (Err f) = (Fit bytes flags plan → ⊥) × (f ≡ Unfit)
 
 -- It is on, sector s is there, and a buffer of n bytes fits it.
@@ -36,9 +34,9 @@ silent = Err (Power 0)
 abbrev pub misaddressed : Card → ℕ → Answer
 misaddressed c s = Err (Misaddressed s c.origin)
 
--- The device after a call: these sectors, flags and codes, on or off; the origin stays.
-pub record Left (c : Card) (cs : List (List ℕ)) (fs plan : List ℕ) (is_on : Bool) (e : Card) : Type 0 where
-  pub cells : e.cells ≡ cs
+-- The device after a call: these bytes, flags and codes, on or off; the origin stays.
+pub record Left (c : Card) (bs fs plan : List ℕ) (is_on : Bool) (e : Card) : Type 0 where
+  pub bytes : e.bytes ≡ bs
   pub flags : e.flags ≡ fs
   pub codes : e.codes ≡ plan
   pub on : e.on ≡ is_on
@@ -46,7 +44,7 @@ pub record Left (c : Card) (cs : List (List ℕ)) (fs plan : List ℕ) (is_on : 
 
 -- These bytes were put into sector s, which is not spoiled then.
 abbrev pub Filled : Card → ℕ → List ℕ → Card → Type 0
-Filled c s bytes e = Left c (slice_set c.cells s bytes) (slice_set c.flags s 0) c.codes c.on e
+Filled c s bytes e = Left c (with_cell c s bytes) (slice_set c.flags s 0) c.codes c.on e
 
 -- A read of sector s: its answer, and the device and the buffer after it.
 pub record Fetched (c : Card) (s : ℕ) (before : List ℕ) (r : Answer) (e : Card) (after : List ℕ) : Type 0 where
@@ -62,10 +60,10 @@ pub record Fetched (c : Card) (s : ℕ) (before : List ℕ) (r : Answer) (e : Ca
 pub record Stored (c : Card) (s : ℕ) (bytes : List ℕ) (r : Answer) (e : Card) : Type 0 where
   pub off : c.on ≡ false → (r ≡ silent) × (e ≡ c)
   pub wrong : Wrong c s (length bytes) → (r ≡ misaddressed c s) × (e ≡ c)
-  pub done : Ready c s (length bytes) → code c ≡ 0 → (r ≡ Ok tt) × Left c (slice_set c.cells s bytes) (slice_set c.flags s 0) (next c) true e
-  pub old : Ready c s (length bytes) → code c ≡ 1 → (r ≡ Err (Power c.origin)) × Left c c.cells c.flags (next c) false e
-  pub new : Ready c s (length bytes) → code c ≡ 2 → (r ≡ Err (Power c.origin)) × Left c (slice_set c.cells s bytes) (slice_set c.flags s 0) (next c) false e
-  pub spoiled : Ready c s (length bytes) → 3 ≤ code c → (r ≡ Err (Power c.origin)) × Left c c.cells (slice_set c.flags s 1) (next c) false e
+  pub done : Ready c s (length bytes) → code c ≡ 0 → (r ≡ Ok tt) × Left c (with_cell c s bytes) (slice_set c.flags s 0) (next c) true e
+  pub old : Ready c s (length bytes) → code c ≡ 1 → (r ≡ Err (Power c.origin)) × Left c c.bytes c.flags (next c) false e
+  pub new : Ready c s (length bytes) → code c ≡ 2 → (r ≡ Err (Power c.origin)) × Left c (with_cell c s bytes) (slice_set c.flags s 0) (next c) false e
+  pub spoiled : Ready c s (length bytes) → 3 ≤ code c → (r ≡ Err (Power c.origin)) × Left c c.bytes (slice_set c.flags s 1) (next c) false e
   pub power : (o : ℕ) → r ≡ Err (Power o) → (c.on ≡ false) ⊎ (Ready c s (length bytes) × (1 ≤ code c))
 
 -- A barrier: it changes nothing.
@@ -77,4 +75,4 @@ pub record Waited (c : Card) (r : Answer) (e : Card) : Type 0 where
 -- A restart: it always succeeds, turns the device on, goes on in the plan where it was, and mends nothing.
 pub record Woken (c : Card) (r : Answer) (e : Card) : Type 0 where
   pub done : r ≡ Ok tt
-  pub left : Left c c.cells c.flags c.codes true e
+  pub left : Left c c.bytes c.flags c.codes true e

@@ -2,3 +2,4 @@
 pub mod Plan
 pub mod Card
 pub mod Calls
+pub mod Loan

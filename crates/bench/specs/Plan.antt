@@ -1,5 +1,5 @@
--- A plan: the codes that say what becomes of each write.
-use Rattle.std.specs.Prelude.{◌≡◌, ℕ, ◌<◌, ◌≤◌, Bool, true, false, List, length, drop, Ok, Err, Result, slice_index}
+-- A plan: the codes that say what becomes of each write, and which slices make a device with it.
+use Rattle.std.specs.Prelude.{◌≡◌, ℕ, ◌*◌, ◌<◌, ◌≤◌, Bool, true, false, List, length, drop, Ok, Err, Result, slice_index}
 use Rattle.bench.specs.declared.plan.Fate.{Fate}
 use Rattle.bench.specs.declared.plan.Fate.TheVariants as fates
 use Rattle.bench.specs.declared.plan.UnknownCode.{UnknownCode}
@@ -34,3 +34,8 @@ first codes = slice_index codes 0
 -- What is left of the codes once the next one is taken.
 abbrev pub later : List ℕ → List ℕ
 later codes = drop 1 codes
+
+-- These bytes, flags and plan make a bench device.
+pub record Fit (bytes flags plan : List ℕ) : Type 0 where
+  pub whole : length bytes ≡ 128 * length flags
+  pub codes : Known plan

@@ -37,7 +37,7 @@ impl Card {
     }
 
     // The bench device over the card.
-    pub fn device(&mut self) -> Result<Bench<'_>, DeviceFault>
+    pub fn device(&mut self) -> Result<Bench<'_, '_, '_>, DeviceFault>
         ensures { Made (flat_map (λ s. s) self.old.sectors.items) self.old.flags.items self.old.plan.items self.old.origin result }
     {
         let Card {

@@ -137,12 +137,12 @@ impl Cards {
     }
 
     // A bench device over one of them.
-    pub fn device(&mut self, side: Side) -> Result<Bench<'_>, DeviceFault> {
+    pub fn device(&mut self, side: Side) -> Result<Bench<'_, '_, '_>, DeviceFault> {
         self.card(side).device()
     }
 
     // One over each. Where both are refused, the left one's refusal answers.
-    pub fn devices(&mut self) -> Result<(Bench<'_>, Bench<'_>), DeviceFault> {
+    pub fn devices(&mut self) -> Result<(Bench<'_, '_, '_>, Bench<'_, '_, '_>), DeviceFault> {
         Ok((self.left.device()?, self.right.device()?))
     }
 }

@@ -4,6 +4,8 @@
 
 ghost use Rattle.std.specs.Prelude.{◌≡◌};
 
+mod lent;
+
 use device::{Device, DeviceFault, SECTOR};
 
 // A device call; a sector is written full of one byte.

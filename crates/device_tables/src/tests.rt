@@ -69,28 +69,108 @@ fn bench_takes_a_code_for_each_write(rt: HostRuntime) -> Result<(), Fail> {
     Ok(())
 }
 
-// Whether a device is made of this many bytes and flags, and this plan.
-fn fits(size: usize, sectors: usize, plan: &[u8]) -> bool {
-    let mut bytes = [0u8; 256];
-    let mut flags = [0u8; 2];
-    Bench::new(
+// What a card holds in a sector, told as a device over it would.
+fn held(card: &Card, sector: usize) -> Option<Result<Reply, DeviceFault>> {
+    let bytes = card.sectors.get(sector)?;
+    let flag = *card.flags.get(sector)?;
+    Some(if flag == 0 {
+        Ok(content(bytes))
+    } else {
+        Err(DeviceFault::Spoiled(sector, card.origin))
+    })
+}
+
+// Makes the calls on a device over the card, whatever they answer, and tells what it shows then. Power is put back
+// for that: a restart mends nothing.
+fn shown_after(
+    card: &mut Card,
+    calls: &[Call],
+) -> Result<[Result<Reply, DeviceFault>; 3], DeviceFault> {
+    let mut device = card.device()?;
+    for call in calls {
+        let _ = play(&mut device, *call);
+    }
+    device.restart()?;
+    Ok([
+        play(&mut device, Call::Read(0)),
+        play(&mut device, Call::Read(1)),
+        play(&mut device, Call::Read(2)),
+    ])
+}
+
+// No clause says what a card holds once a device made by `new` is gone, so the two are compared after each call.
+#[test]
+fn card_holds_what_its_device_shows(rt: HostRuntime) -> Result<(), Fail> {
+    let calls = [
+        Call::Write(0, 1),
+        Call::Write(1, 2),
+        Call::Write(2, 7),
+        Call::Barrier,
+        Call::Restart,
+        Call::Write(3, 8),
+        Call::WriteOnly(0, 127),
+        Call::ReadInto(1, 129),
+        Call::Write(0, 3),
+        Call::Write(1, 8),
+        Call::Restart,
+        Call::Write(1, 4),
+        Call::Barrier,
+        Call::Restart,
+        Call::Read(1),
+        Call::Write(2, 5),
+        Call::Restart,
+        Call::Write(1, 6),
+    ];
+    for made in 0..calls.len() + 1 {
+        let mut card = Card::blank(rt.alloc(), 3, 9)?;
+        card.plan = vec![in rt.alloc(); 0, 0, 1, 2, 3, 3]?;
+        let shown = shown_after(&mut card, &calls[..made])?;
+        for (sector, answer) in shown.iter().enumerate() {
+            assert_eq!(rt; held(&card, sector), Some(*answer));
+        }
+    }
+    Ok(())
+}
+
+// Whether a device is made of this many bytes and flags, and this plan. They stay as they were either way.
+fn fits(size: usize, sectors: usize, plan: &[u8]) -> Option<bool> {
+    let mut bytes = [5u8; 256];
+    let mut flags = [6u8; 2];
+    let made = Bench::new(
         &mut bytes[..size.min(256)],
         &mut flags[..sectors.min(2)],
         plan,
         1,
     )
-    .is_ok()
+    .is_ok();
+    (bytes == [5u8; 256] && flags == [6u8; 2]).then_some(made)
 }
 
 #[test]
 fn bench_refuses_what_does_not_fit(rt: HostRuntime) {
-    assert!(rt; !fits(129, 1, &[]));
-    assert!(rt; !fits(127, 1, &[]));
-    assert!(rt; !fits(128, 2, &[]));
-    assert!(rt; !fits(128, 1, &[0, 4]));
-    assert!(rt; fits(128, 1, &[3]));
-    assert!(rt; fits(256, 2, &[]));
-    assert!(rt; fits(0, 0, &[]));
+    assert_eq!(rt; fits(129, 1, &[]), Some(false));
+    assert_eq!(rt; fits(127, 1, &[]), Some(false));
+    assert_eq!(rt; fits(128, 2, &[]), Some(false));
+    assert_eq!(rt; fits(128, 1, &[0, 4]), Some(false));
+    assert_eq!(rt; fits(128, 1, &[3]), Some(true));
+    assert_eq!(rt; fits(256, 2, &[]), Some(true));
+    assert_eq!(rt; fits(0, 0, &[]), Some(true));
+}
+
+#[test]
+fn lent_slices_hold_what_was_written(rt: HostRuntime) {
+    let mut bytes = [0u8; 256];
+    let mut flags = [0u8, 1];
+    assert_eq!(rt;
+        lent::write_once(&mut bytes, &mut flags, 1, &[7u8; 128]),
+        Ok(Ok(()))
+    );
+    assert_eq!(rt; content(&bytes[..128]), Reply::Full(0));
+    assert_eq!(rt; content(&bytes[128..]), Reply::Full(7));
+    assert_eq!(rt; flags, [0u8; 2]);
+    let unfit = lent::write_once(&mut bytes[..255], &mut flags, 1, &[8u8; 128]);
+    assert_eq!(rt; unfit, Err(DeviceFault::Unfit));
+    assert_eq!(rt; content(&bytes[128..]), Reply::Full(7));
 }
 
 #[test]

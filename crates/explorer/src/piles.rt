@@ -158,7 +158,7 @@ impl Cards {
         Ok(())
     }
 
-    fn devices(&mut self) -> Result<(Bench<'_>, Bench<'_>), DeviceFault> {
+    fn devices(&mut self) -> Result<(Bench<'_, '_, '_>, Bench<'_, '_, '_>), DeviceFault> {
         Ok((self.left.device()?, self.right.device()?))
     }
 }

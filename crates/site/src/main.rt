@@ -123,7 +123,7 @@ fn tell_pile<L: Device + Drop, R: Device + Drop>(
 pub fn devices<'a>(
     left: &'a mut Card,
     right: &'a mut Card,
-) -> Result<(Bench<'a>, Bench<'a>), DeviceFault> {
+) -> Result<(Bench<'a, 'a, 'a>, Bench<'a, 'a, 'a>), DeviceFault> {
     Ok((left.device()?, right.device()?))
 }
 

@@ -1,0 +1,2 @@
+-- Why a write of a sector is what a device's write means.
+pub mod Sectors
