@@ -35,7 +35,7 @@ pub struct Bench<'b, 'f, 'p> {
 }
 
 impl<'b, 'f, 'p> Bench<'b, 'f, 'p> {
-    ghost use Rattle.bench.specs.Calls.{Made, Filled};
+    ghost use Rattle.bench.specs.Calls.{Made, Ready, Filled, Stored};
     ghost use Rattle.bench.specs.Card.{card, cell, sectors};
     ghost use Rattle.bench.specs.Loan.{SameLoan, LentThese};
     ghost use Rattle.device.specs.Meaning.{Admitted};
@@ -95,6 +95,25 @@ impl<'b, 'f, 'p> Bench<'b, 'f, 'p> {
         self.bytes[start..start + SECTOR].copy_from_slice(new);
         self.flags[sector] = 0;
     }
+
+    // Writes a sector as the next code of the plan says.
+    fn store(&mut self, sector: usize, bytes: &[u8]) -> Result<(), DeviceFault>
+        requires { Ready (card self.old) sector (length bytes.now) }
+        ensures stored { Stored (card self.old) sector bytes.now result (card self.new) }
+        ensures loan { SameLoan self.old self.new }
+    {
+        let fate = self.supply.take();
+        match fate {
+            Fate::Done | Fate::New => self.fill(sector, bytes),
+            Fate::Old => {}
+            Fate::Spoiled => self.flags[sector] = 1,
+        }
+        if fate == Fate::Done {
+            Ok(())
+        } else {
+            Err(DeviceFault::Power(self.origin))
+        }
+    }
 }
 
 impl<'b, 'f, 'p> Device for Bench<'b, 'f, 'p> {
@@ -131,17 +150,7 @@ impl<'b, 'f, 'p> Device for Bench<'b, 'f, 'p> {
         ensures loan { SameLoan self.old self.new }
     {
         self.admit(sector, bytes.len())?;
-        let fate = self.supply.take();
-        match fate {
-            Fate::Done | Fate::New => self.fill(sector, bytes),
-            Fate::Old => {}
-            Fate::Spoiled => self.flags[sector] = 1,
-        }
-        if fate == Fate::Done {
-            Ok(())
-        } else {
-            Err(DeviceFault::Power(self.origin))
-        }
+        self.store(sector, bytes)
     }
 
     fn barrier(&mut self) -> Result<(), DeviceFault>
