@@ -20,7 +20,7 @@ unfolding cut
 cut_none zero f t h = refl
 cut_none (suc n) f t h = ap (λ b. cond b (piece f (end f t - f) ∷ cut n (end f t) t) []) (le-ltb f t h)
 
-cut_zero : (f t : ℕ) → cut zero f t ≡ []
+pub cut_zero : (f t : ℕ) → cut zero f t ≡ []
 unfolding cut
 cut_zero f t = refl
 

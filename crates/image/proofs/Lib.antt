@@ -4,3 +4,5 @@ pub mod Joining
 pub mod Reaching
 pub mod Copying
 pub mod Cutting
+pub mod Alone
+pub mod Bounds

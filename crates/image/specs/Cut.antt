@@ -1,9 +1,9 @@
 -- Runs cut at the bounds of pages.
-use Rattle.std.specs.Prelude.{◌≡◌, ℕ, zero, suc, ◌+◌, ◌-◌, ◌*◌, ◌/◌, ◌%◌, ◌<◌, ◌≤◌, min, cond, List, [], ◌∷◌, ◌++◌, length, take, drop, nat_lt, slice_index}
+use Rattle.std.specs.Prelude.{◌≡◌, ℕ, zero, suc, ◌+◌, ◌-◌, ◌*◌, ◌/◌, ◌%◌, ◌<◌, ◌≤◌, min, cond, ◌⊎◌, List, [], ◌∷◌, ◌++◌, length, take, drop, nat_lt, slice_index}
 use Rattle.journal.specs.Memory.{overlaid}
 use Rattle.image.specs.declared.run.Run.{Run}
 use Rattle.image.specs.declared.run.Piece.{Piece}
-use Rattle.image.specs.Runs.{run, is_declared, Apart, Inside}
+use Rattle.image.specs.Runs.{run, Declared, is_declared, Apart, Inside}
 
 abbrev pub piece : ℕ → ℕ → Piece
 piece s n = record { start = s; size = n }
@@ -36,6 +36,32 @@ pub record FitsPage (p : Piece) : Type 0 where
 abbrev pub AllPieces : List Piece → Type 0
 AllPieces [] = Unit {0}
 AllPieces (p ∷ ps) = FitsPage p × AllPieces ps
+
+-- Byte i lies in one of these pieces.
+abbrev pub Lies : List Piece → ℕ → Type 0
+Lies [] i = ⊥
+Lies (p ∷ ps) i = ((p.start ≤ i) × (i < p.start + p.size)) ⊎ Lies ps i
+
+-- The byte before e is the last of its page, or the last of a run.
+abbrev pub EndsHere : List Run → ℕ → Type 0
+EndsHere rs e = (e % 96 ≡ 0) ⊎ (Declared rs e → ⊥)
+
+-- The pieces follow one another from byte `floor` on, each in one page, and each ends just where a page or a run ends.
+abbrev pub Follow : List Run → ℕ → List Piece → Type 0
+Follow rs floor [] = Unit {0}
+Follow rs floor (p ∷ ps) = (floor ≤ p.start) × FitsPage p × EndsHere rs (p.start + p.size) × Follow rs (p.start + p.size) ps
+
+-- These are the declared bytes, the lowest first, cut just at the bounds of pages and at the ends of runs.
+pub record Cuts (rs : List Run) (ps : List Piece) : Type 0 where
+  pub order : Follow rs 0 ps
+  pub all : (i : ℕ) → Declared rs i → Lies ps i
+  pub only : (i : ℕ) → Lies ps i → Declared rs i
+
+-- Runs that lie apart in the memory are cut so, and in one way alone.
+abbrev pub PiecesCut : Type 0
+PiecesCut =
+    (rs : List Run) → Apart 0 rs → Inside rs
+    → Cuts rs (cut_runs rs) × ((ps : List Piece) → Cuts rs ps → ps ≡ cut_runs rs)
 
 abbrev pub PiecesFit : Type 0
 PiecesFit = (rs : List Run) → Inside rs → AllPieces (cut_runs rs)

@@ -25,6 +25,12 @@ abbrev pub Inside : List Run → Type 0
 Inside [] = Unit {0}
 Inside (r ∷ rs) = (r.to ≤ 6144) × Inside rs
 
+-- These runs lie apart, and declare the bytes from f to t and those of rs, and no others.
+pub record DeclaresAlso (f t : ℕ) (rs rs' : List Run) : Type 0 where
+  pub apart : Apart 0 rs'
+  pub all : (i : ℕ) → ((f ≤ i) × (i < t)) ⊎ Declared rs i → Declared rs' i
+  pub only : (i : ℕ) → Declared rs' i → ((f ≤ i) × (i < t)) ⊎ Declared rs i
+
 -- The runs once the bytes from f to t are declared too: runs that they touch or overlap become one.
 abbrev pub joined : ℕ → ℕ → List Run → List Run
 joined f t [] = run f t ∷ []

@@ -3,7 +3,7 @@
 #![tactic(auto)]
 
 ghost use Rattle.image.specs.Runs.{Joins};
-ghost use Rattle.image.specs.Cut.{PiecesFit, PiecesFew, PiecesNone, PiecesLay, Edges};
+ghost use Rattle.image.specs.Cut.{PiecesCut, PiecesFit, PiecesFew, PiecesNone, PiecesLay, Edges};
 
 mod calls;
 mod run;
@@ -19,6 +19,11 @@ pub use state::Image;
 // Names the theorem that joining a stretch in declares its bytes and no others, and keeps the runs apart.
 pub fn joining_declares()
     ensures { Joins }
+{}
+
+// Names the theorem that the pieces are the declared bytes cut just at the bounds of pages and at the ends of runs.
+pub fn pieces_are_cut_at_bounds()
+    ensures { PiecesCut }
 {}
 
 // Names the theorem that each piece has bytes and lies in one page of the memory.
