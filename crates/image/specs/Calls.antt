@@ -9,7 +9,7 @@ use Rattle.image.specs.declared.run.Piece.{Piece}
 use Rattle.image.specs.declared.runs.Runs.{Runs}
 use Rattle.image.specs.declared.runs.Pieces.{Pieces}
 use Rattle.image.specs.declared.state.Image.{Image}
-use Rattle.image.specs.Runs.{run, Declared, joined}
+use Rattle.image.specs.Runs.{run, Declared, DeclaresAlso, joined}
 use Rattle.image.specs.Cut.{cut, cut_runs}
 use Rattle.image.specs.Stretch.{InRange, OutOfRange}
 
@@ -65,7 +65,7 @@ pub record Reached (start : ℕ) (rs : List Run) (b : ℕ) : Type 0 where
 -- The stretch is declared beside what was.
 pub record DeclaredMore (start size : ℕ) (x y : Image) : Type 0 where
   pub in_range : InRange start size
-  pub runs : declared y ≡ joined start (start + size) (declared x)
+  pub declares : DeclaresAlso start (start + size) (declared x) (declared y)
   pub memory : y.memory ≡ x.memory
   pub before : y.before ≡ x.before
 
@@ -75,10 +75,13 @@ pub record RefusedRange (start size s : ℕ) (x y : Image) : Type 0 where
   pub out : OutOfRange start size
   pub same : y ≡ x
 
+-- With the stretch declared too there would be more than 16 runs.
 pub record RefusedRuns (start size s : ℕ) (x y : Image) : Type 0 where
   pub told : s ≡ start
   pub in_range : InRange start size
-  pub many : 16 < length (joined start (start + size) (declared x))
+  pub runs : List Run
+  pub declares : DeclaresAlso start (start + size) (declared x) runs
+  pub many : 16 < length runs
   pub same : y ≡ x
 
 abbrev pub Declares : ℕ → ℕ → Image → Result (Unit {0}) ImageFault → Image → Type 0
