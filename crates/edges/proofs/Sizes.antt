@@ -3,10 +3,10 @@ use Rattle.std.proofs.Common.{◌≡◌, ℕ, ◌<◌, ◌≤◌, ◌⊎◌, Lis
 use Rattle.device.specs.declared.fault.DeviceFault.{DeviceFault}
 use Rattle.device.specs.declared.fault.DeviceFault.TheVariants.{Power, Misaddressed, Unfit, Spoiled}
 use Rattle.device.specs.Disk.{Disk}
-use Rattle.journal.specs.declared.survey.Survey.{Survey}
 use Rattle.recovery.specs.declared.fault.RecoveryFault.{RecoveryFault}
 use Rattle.recovery.specs.declared.fault.RecoveryFault.TheVariants as recovery
 use Rattle.device.specs.Meaning.{Restarted}
+use Rattle.recovery.specs.declared.opening.Recovery.{Recovery}
 use Rattle.recovery.specs.Opening.{Divides, Formats, Opens, NoRestart, Recovers}
 use Rattle.transactions.specs.declared.fault.StoreFault.{StoreFault}
 use Rattle.transactions.specs.declared.fault.StoreFault.TheVariants.{Size}
@@ -78,7 +78,7 @@ format_fits d e (recovery.NoMark low) w h five = omega (arith, five)
 format_fits d e (recovery.Uncovered page) w h five = omega (arith, five)
 
 -- past the test of its size a device is not refused for it
-later_fits : (g : RecoveryFault) (n : ℕ) (d e : Disk) (memory : List ℕ) → (NoRestart {A = Survey × ℕ} d (Err g) e ⊎ ((m : Disk) × Restarted d m × Recovers n m (Err g) e memory)) → number (from_recovery g) ≡ 5 → ⊥
+later_fits : (g : RecoveryFault) (n : ℕ) (d e : Disk) (memory : List ℕ) → (NoRestart {A = Recovery} d (Err g) e ⊎ ((m : Disk) × Restarted d m × Recovers n m (Err g) e memory)) → number (from_recovery g) ≡ 5 → ⊥
 later_fits (recovery.Device f) n d e memory h five = device_row f five
 later_fits (recovery.Size count) n d e memory (inl h) five = h
 later_fits (recovery.Size count) n d e memory (inr (m, restart, rest)) five = rest.1

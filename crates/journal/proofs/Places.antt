@@ -1,14 +1,11 @@
 -- What is known of the record at a place of the log, and of the record with a serial.
-use Rattle.std.proofs.Common.{◌≡◌, ℕ, zero, suc, ◌+◌, ◌-◌, ◌%◌, ◌^◌, ◌<◌, ◌≤◌, eqb, ◌⊎◌, List, length, replicate, Some, None, Option, sym, refl, ap, ◌∙◌, subst, inl, inr, ⊎_elim, mod-lt, arith}
+use Rattle.std.proofs.Common.{◌≡◌, ℕ, zero, suc, ◌+◌, ◌-◌, ◌%◌, ◌^◌, ◌<◌, ◌≤◌, eqb, ◌⊎◌, List, length, replicate, sym, refl, ap, ◌∙◌, subst, inl, inr, ⊎_elim, mod-lt, arith}
 use Rattle.std.proofs.lemmas.Bool.{cases_lt, cases_Bool, eqb-true, eq-eqb, ne_eqb, cond-true, cond-false, cond_both}
 use Rattle.device.specs.Disk.{Shown, spoiled, holds}
 use Rattle.record.specs.Entry.{Entry, reads_as}
-use Rattle.record.specs.Calls.{Answered, Told}
 use Rattle.record.specs.Good.{Good, Sound}
-use Rattle.record.specs.declared.Record.{Record}
 use Rattle.record.proofs.Laws.{found_good, found_bad, kind_good, good_sound, zeros_bad}
 use Rattle.journal.specs.Log.{nothing, said, if_serial, log}
-use Rattle.journal.specs.Notes.{found_entry}
 use Rattle.journal.specs.Opening.{Here}
 
 -- a sector that is good says what it reads as, and any other says nothing
@@ -21,11 +18,6 @@ said_bad n p bytes b = found_bad n p bytes b
 
 pub said_zeros : (n p : ℕ) → said n p (holds (replicate 128 0)) ≡ nothing
 said_zeros n p = said_bad n p (replicate 128 0) (zeros_bad n p)
-
--- what a reading answers is what the sector says
-pub read_said : (n p : ℕ) (bytes : List ℕ) (found : Option Record) → Answered n p bytes found → Told bytes found → found_entry found ≡ said n p (holds bytes)
-read_said n p bytes (Some r) g t = t ∙ sym (said_good n p bytes g)
-read_said n p bytes None b t = sym (said_bad n p bytes b)
 
 -- a record at a place keeps the rules of the place and of its kind
 

@@ -1,8 +1,9 @@
 -- The page table: a bit set, and records noted one after another.
-use Rattle.std.proofs.Common.{◌≡◌, ℕ, ◌+◌, ◌*◌, ◌%◌, ◌^◌, ◌<◌, ◌≤◌, Bool, true, false, cond, eqb, sym, refl, ap, ◌∙◌, ⊎_elim, add-one}
-use Rattle.std.specs.Int.{w64, bit_at}
+use Rattle.std.proofs.Common.{◌≡◌, ℕ, zero, suc, ◌+◌, ◌*◌, ◌%◌, ◌^◌, ◌<◌, ◌≤◌, Bool, true, false, cond, eqb, length, sym, refl, ap, ◌∙◌, ⊎_elim, add-one, arith}
+use Rattle.std.specs.Int.{Width, w64, bit_at}
 use Rattle.std.specs.Int.Bits.{bit_or}
-use Rattle.std.proofs.lemmas.Bool.{cases_eq, eq-eqb, ne_eqb}
+use Rattle.std.proofs.lemmas.Bool.{cases_eq, cases_Bool, eq-eqb, ne_eqb}
+use Rattle.std.proofs.lemmas.Bool.Decides.{nat_tests}
 use Rattle.std.proofs.lemmas.Nat.Bits.{bit_at-zero, bit_at_above, bit_at_set_same, bit_at_set_other}
 use Rattle.record.specs.Entry.{Entry}
 use Rattle.journal.specs.declared.pages.PageTable.{PageTable}
@@ -15,6 +16,13 @@ or_none false = refl
 cond_none : (b : Bool) → cond b false false ≡ false
 cond_none true = refl
 cond_none false = refl
+
+cond_same : (b : Bool) → cond b true true ≡ true
+cond_same true = refl
+cond_same false = refl
+
+false-true : {A : Type 0} → false ≡ true → A
+false-true h = let z : ◌≡◌ {A = Bool} false true = h in cc
 
 -- a bit past the last says nothing
 pub no_bit : (n p : ℕ) → n < 2 ^ 64 → 64 ≤ p → eqb (bit_at n p) 1 ≡ false
@@ -103,9 +111,49 @@ tabled l low k table h =
       covered = flags_from (in_log covers l low k) (covered_in table) h.covered;
     }
 
+pub tabled_none : (l : ℕ → Entry) (low : ℕ) → Tabled l low 0 unsaid
+tabled_none l low = tabled l low 0 unsaid (noted_none l low unsaid)
+
 pub tabled_more : (l : ℕ → Entry) (low k : ℕ) (before after : PageTable) → Tabled l low k before → Noted (l (low + k)) before after → Tabled l low (k + 1) after
 tabled_more l low k before after old new =
     record {
       named = λ p small. new.named p small ∙ ap (λ (b : Bool). cond (names (l (low + k)) p) true b) (old.named p small) ∙ sym (in_log_more names l low k p);
       covered = λ p small. new.covered p small ∙ ap (λ (b : Bool). cond (covers (l (low + k)) p) true b) (old.covered p small) ∙ sym (in_log_more covers l low k p);
     }
+
+-- a mark says nothing of a page
+
+unnamed : (e : Entry) (p : ℕ) → e.kind ≡ 4 → names e p ≡ false
+unnamed e p mark = grind (arith, nat_tests)
+
+uncovered : (e : Entry) (p : ℕ) → length e.bytes ≡ 0 → covers e p ≡ false
+uncovered e p bare = grind (arith, nat_tests)
+
+pub mark_noted : (e : Entry) (table : PageTable) → e.kind ≡ 4 → length e.bytes ≡ 0 → Noted e table table
+mark_noted e table mark bare =
+    record {
+      named = λ p small. ap (λ (b : Bool). cond b true (named_in table p)) (sym (unnamed e p mark));
+      covered = λ p small. ap (λ (b : Bool). cond b true (covered_in table p)) (sym (uncovered e p bare));
+    }
+
+-- a page is covered in the table where a record covers it
+
+pub covers_found : (l : ℕ → Entry) (low k p : ℕ) → in_log covers l low k p ≡ true → (s : ℕ) × (low ≤ s) × (s < low + k) × (covers (l s) p ≡ true)
+unfolding in_log
+covers_found l low zero p h = absurd (false-true h)
+covers_found l low (suc k) p h =
+    ⊎_elim
+    (λ (t : covers (l (low + k)) p ≡ true). (low + k, omega arith, omega arith, t))
+    (λ (f : covers (l (low + k)) p ≡ false).
+    let r = covers_found l low k p (ap (λ (b : Bool). cond b true (in_log covers l low k p)) (sym f) ∙ h) in
+    (r.0, r.1, omega (arith, r.2), r.3))
+    (cases_Bool (covers (l (low + k)) p))
+
+pub covers_there : (l : ℕ → Entry) (low k p s : ℕ) → low ≤ s → s < low + k → covers (l s) p ≡ true → in_log covers l low k p ≡ true
+unfolding in_log
+covers_there l low zero p s a b t = absurd (omega arith)
+covers_there l low (suc k) p s a b t =
+    ⊎_elim
+    (λ (e : s ≡ low + k). let here : covers (l (low + k)) p ≡ true = ap (λ (j : ℕ). covers (l j) p) (sym e) ∙ t in ap (λ (c : Bool). cond c true (in_log covers l low k p)) here)
+    (λ ne. let r = covers_there l low k p s a (omega arith) t in ap (λ (c : Bool). cond (covers (l (low + k)) p) true c) r ∙ cond_same (covers (l (low + k)) p))
+    (cases_eq s (low + k))

@@ -8,10 +8,10 @@ mod note;
 mod pages;
 mod survey;
 
-pub use note::{Note, look_at, note_of, of_serial, record_at};
+pub use note::{Latest, Note, note_of};
 pub use pages::PageTable;
 use record::{PAGE, PAGES};
-pub use survey::{LogFault, Survey, survey_of};
+pub use survey::{LogFault, Survey, next_place, survey_of};
 
 // The number of bytes in the memory that a log keeps.
 pub const MEMORY: usize = PAGES * PAGE;

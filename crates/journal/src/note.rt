@@ -1,64 +1,87 @@
-// The short note that an opening keeps of each record of a log: all that the analysis asks of it.
+// The short note that an opening keeps of each place of a log: all that it asks of a record but its bytes, in 16 bytes.
 ghost use Rattle.device.specs.Disk.{holds};
 ghost use Rattle.journal.specs.Log.{said};
-ghost use Rattle.journal.specs.Notes.{Notes, Tells, found_entry, if_noted};
-ghost use Rattle.record.specs.Entry.{entry};
+ghost use Rattle.journal.specs.Notes.{Tells, TellsOf, later, met};
 ghost use Rattle.std.specs.Prelude.{◌≡◌};
 
-use record::{Head, Kind, PAGE, Record};
+use device::SECTOR;
+use record::{Head, Kind, Label, label_at};
 
+// What a place of a log holds.
 #[derive(Clone, Copy, PartialEq, Eq, Debug)]
 pub struct Note {
-    pub head: Head,
-    pub kind: Kind,
-    pub page: u16,
-    // Whether the record's bytes are a whole page.
-    pub whole: bool,
+    // The record's serial; 0 where there is no record.
+    pub serial: u64,
+    // Its kind, if there is a record.
+    pub kind: Option<Kind>,
+    // The page that it is of, where its bytes begin there, and how many they are; 0 of a mark.
+    pub page: u8,
+    pub offset: u8,
+    pub size: u8,
 }
 
-impl From<Record<'_>> for Note {
-    ghost from_gives = { λ r x. Tells (entry r) x };
+impl Note {
+    // The note of a place that holds no record.
+    pub const BLANK: Note = Note {
+        serial: 0,
+        kind: None,
+        page: 0,
+        offset: 0,
+        size: 0,
+    };
+}
 
-    fn from(record: Record<'_>) -> Self {
-        let (page, whole) = match record {
-            Record::Part { page, bytes, .. } | Record::Page { page, bytes, .. } => {
-                (page, bytes.len() == PAGE)
-            }
-            Record::Mark { .. } => (0, false),
-        };
+impl From<Label> for Note {
+    ghost from_gives = { λ l x. TellsOf l x };
+
+    // No number of a label is greater than 96.
+    fn from(label: Label) -> Note {
         Note {
-            head: record.head(),
-            kind: record.kind(),
-            page,
-            whole,
+            serial: label.head.serial,
+            kind: Some(label.kind),
+            page: label.page as u8,
+            offset: label.offset as u8,
+            size: label.length as u8,
         }
     }
 }
 
-// The note of a record that was found, or of none.
-pub fn note_of(found: Option<Record<'_>>) -> Option<Note>
-    ensures { Notes (found_entry found.entry) result }
-{
-    found.map(Note::from)
+// The record with the greatest serial of those that were met.
+#[derive(Clone, Copy, PartialEq, Eq, Debug)]
+pub struct Latest {
+    // Its serial; 0 where no record was met.
+    pub serial: u64,
+    // The serial that the log begins with, as it tells.
+    pub low: u64,
 }
 
-// The record that a sector with these bytes holds, at this place of a log of so many sectors.
-pub fn record_at<'a>(sector: &'a [u8], place: usize, places: usize) -> Option<Record<'a>>
-    ensures { found_entry result ≡ said places place (holds sector.now) }
-{
-    record::read(sector, place, places)
+impl Latest {
+    // Where no record was met yet.
+    pub fn new() -> Latest
+        ensures { result ≡ record { serial = 0; low = 0 } }
+    {
+        Latest { serial: 0, low: 0 }
+    }
+
+    // Meets the record with this head too.
+    fn meet(&mut self, head: Head)
+        ensures { self.new ≡ later head.serial head.low self.old }
+    {
+        if self.serial < head.serial {
+            self.serial = head.serial;
+            self.low = head.low;
+        }
+    }
 }
 
-// The note of such a sector.
-pub fn look_at(sector: &[u8], place: usize, places: usize) -> Option<Note>
-    ensures { Notes (said places place (holds sector.now)) result }
+// Notes what a sector with these bytes holds, at this place of a log of so many sectors, and meets it.
+pub fn note_of(sector: &[u8; SECTOR], place: usize, places: usize, latest: &mut Latest) -> Note
+    ensures notes { Tells (said places place (holds sector.now)) result }
+    ensures meets { latest.new ≡ met (said places place (holds sector.now)) latest.old }
 {
-    note_of(record_at(sector, place, places))
-}
-
-// The note, if it is of the record with this serial.
-pub fn of_serial(note: Option<Note>, serial: u64) -> Option<Note>
-    ensures { result ≡ if_noted serial note }
-{
-    note.filter(|note| note.head.serial == serial)
+    let Some(label) = label_at(sector, place, places) else {
+        return Note::BLANK;
+    };
+    latest.meet(label.head);
+    Note::from(label)
 }

@@ -9,7 +9,6 @@ use Rattle.device.specs.Meaning.{NothingNew, Quiet, Lost, Failed, Restarted}
 use Rattle.device.specs.Trace.{Act, looked, wrote, settled, restarted, Cut, Done, CutShort}
 use Rattle.device.proofs.Changes.{faded_failed, changed_cut}
 use Rattle.device.proofs.Plans.{does_plate, done_plate}
-use Rattle.journal.specs.declared.survey.Survey.{Survey}
 use Rattle.journal.specs.Log.{log}
 use Rattle.journal.specs.Opening.{Runs, Finds}
 use Rattle.journal.proofs.Unique.{same_low, same_end, determined}
@@ -21,6 +20,7 @@ use Rattle.recovery.specs.declared.fault.RecoveryFault.{RecoveryFault}
 use Rattle.recovery.specs.declared.fault.RecoveryFault.TheVariants.{Device, Size, NoLog, NoMark, Uncovered}
 use Rattle.recovery.specs.Clearing.{clearing}
 use Rattle.recovery.specs.Format.{formatting}
+use Rattle.recovery.specs.declared.opening.Recovery.{Recovery}
 use Rattle.recovery.specs.Opening.{Refuses, CutClearing, Recovers, Divides, NoRestart, Opens}
 use Rattle.transactions.specs.declared.spool.Spooled.{Spooled}
 use Rattle.transactions.specs.declared.fault.StoreFault.{StoreFault}
@@ -220,7 +220,7 @@ recovery_failed n d e h memory NoLog w quiet r = absurd (safe_found n d h NoLog 
 recovery_failed n d e h memory (NoMark low) w quiet r = absurd (safe_found n d h (NoMark low) w r.1)
 recovery_failed n d e h memory (Uncovered page) w quiet r = absurd (safe_found n d h (Uncovered page) w r.1)
 
-restart_failed : (n : ℕ) (d e : Disk) (h : History) (g : RecoveryFault) → Safe n d h → NoRestart {A = Survey × ℕ} d (Err g) e → Spared n e h g
+restart_failed : (n : ℕ) (d e : Disk) (h : History) (g : RecoveryFault) → Safe n d h → NoRestart {A = Recovery} d (Err g) e → Spared n e h g
 restart_failed n d e h (Device (Power o)) w r = (refl, safe_lost n d e o h w r)
 restart_failed n d e h (Device (Misaddressed t o)) w r = absurd r
 restart_failed n d e h (Device Unfit) w r = absurd r

@@ -49,6 +49,15 @@ good_sound places place b g =
       fits = rw (length-take-le (field 28 2 b) (drop 32 b) (omega arith)) g.fits;
     }
 
+-- It says as many bytes as its label.
+pub good_size : (places place : ℕ) (b : List ℕ) → Good places place b → length (reads_as b).bytes ≡ field 28 2 b
+unfolding reads_as
+good_size places place b g =
+    let small = fits_size _ _ _ _ g.fits in
+    let whole = g.long in
+    let rest : length (drop 32 b) ≡ 96 = simp length-drop (omega arith) in
+    length-take-le (field 28 2 b) (drop 32 b) (omega arith)
+
 -- Its kind is one.
 pub good_kind : (places place : ℕ) (b : List ℕ) → Good places place b → (1 ≤ (reads_as b).kind) × ((reads_as b).kind ≤ 4)
 good_kind places place b g = (good_sound places place b g).fits.known

@@ -1,6 +1,7 @@
 // The numbers before a sector's data, and the rules that they keep in a good sector.
 ghost use Rattle.std.specs.Prelude.{◌≡◌, ◌+◌, ◌<◌, ◌≤◌, ◌↔◌, IsTrue, take, drop};
 ghost use Rattle.record.specs.Good.{Placed, Fits};
+ghost use Rattle.record.specs.Fields.{field};
 ghost use Rattle.record.specs.Kind.{code_of, Decoded};
 
 use crate::{Head, PAGE, PAGES, SERIALS};
@@ -121,9 +122,9 @@ impl Label {
         ensures { Labelled sector.now result }
     {
         let head = Head {
-            serial: u64::from_le_bytes(part(sector, 0)),
-            low: u64::from_le_bytes(part(sector, 8)),
-            ordinal: u64::from_le_bytes(part(sector, 16)),
+            serial: number(sector, 0),
+            low: number(sector, 8),
+            ordinal: number(sector, 16),
         };
         let page = u16::from_le_bytes(part(sector, 24));
         let offset = u16::from_le_bytes(part(sector, 26));
@@ -131,6 +132,14 @@ impl Label {
         let kind = Kind::try_from(sector[30]).ok()?;
         Label::new(head, kind, page, offset, length as usize)
     }
+}
+
+// The number in the eight bytes of a sector from `at` on.
+pub(crate) fn number(sector: &[u8; SECTOR], at: usize) -> u64
+    requires { at + 8 ≤ SECTOR }
+    ensures { result ≡ field at 8 sector.now }
+{
+    u64::from_le_bytes(part(sector, at))
 }
 
 // The bytes of a sector from `at` on, as many as the number has that they are read as.

@@ -4,6 +4,7 @@
 
 ghost use Rattle.std.specs.Prelude.{◌≡◌, length};
 ghost use Rattle.record.specs.Entry.{entry};
+ghost use Rattle.record.specs.Fields.{field};
 ghost use Rattle.record.specs.Calls.{Answered, Told, Written};
 ghost use Rattle.record.specs.Kind.{code_of};
 ghost use Rattle.record.specs.Label.{Judged, Labels, spelled};
@@ -13,12 +14,11 @@ mod layout;
 pub mod theorems;
 
 use device::SECTOR;
-pub use label::Kind;
-use label::Label;
+pub use label::{Kind, Label};
 use layout::lay_out;
 
 // Where a record's own bytes begin, after its label.
-const DATA: usize = 32;
+pub const DATA: usize = 32;
 
 // The number of bytes in a page: all that a sector has room for.
 pub const PAGE: usize = SECTOR - DATA;
@@ -155,7 +155,7 @@ pub fn read<'a>(sector: &'a [u8], place: usize, places: usize) -> Option<Record<
     ensures good { Answered places place sector.now result }
     ensures told { Told sector.now result }
 {
-    let label = good_label(sector.as_array()?, place, places)?;
+    let label = label_at(sector.as_array()?, place, places)?;
     // The bytes past the record's own mean nothing.
     Some(Record::new(label, &sector[DATA..DATA + label.length]))
 }
@@ -173,12 +173,19 @@ pub fn write(record: Record, sector: &mut [u8]) -> Result<(), RecordFault>
     Ok(())
 }
 
-// The label of a good sector.
-fn good_label(sector: &[u8; SECTOR], place: usize, places: usize) -> Option<Label>
+// The label of the sector at this place of a log of so many sectors, or none where it is not good there.
+pub fn label_at(sector: &[u8; SECTOR], place: usize, places: usize) -> Option<Label>
     ensures { Judged places place sector.now result }
 {
     if sector[31] != 0 {
         return None;
     }
     Label::of(sector).filter(|label| label.head.placed(place, places))
+}
+
+// The ordinal that a sector tells, where it is good.
+pub fn ordinal_of(sector: &[u8; SECTOR]) -> u64
+    ensures { result ≡ field 16 8 sector.now }
+{
+    label::number(sector, 16)
 }

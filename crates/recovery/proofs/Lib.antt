@@ -3,4 +3,4 @@ pub mod Zeroing
 pub mod Homes
 pub mod Replaying
 pub mod Strays
-pub mod Recovery
+pub mod Rebuilding

@@ -1,17 +1,14 @@
 -- Strays cleared one after another.
-use Rattle.std.proofs.Common.{◌≡◌, ℕ, suc, ◌+◌, ◌-◌, ◌<◌, ◌≤◌, Bool, true, false, cond, ltb, List, ◌∷◌, Some, None, Option, Err, sym, refl, ap, ◌∙◌, subst, add-one, arith}
-use Rattle.std.specs.Option.{MatchOption}
-use Rattle.std.proofs.lemmas.Bool.{le-ltb}
+use Rattle.std.proofs.Common.{◌≡◌, ℕ, suc, ◌+◌, ◌-◌, ◌<◌, ◌≤◌, Bool, true, false, cond, ltb, List, ◌∷◌, Err, sym, refl, ap, ◌∙◌, subst, add-one, arith}
 use Rattle.device.specs.declared.fault.DeviceFault.{DeviceFault}
 use Rattle.device.specs.declared.fault.DeviceFault.TheVariants.{Power, Misaddressed, Unfit, Spoiled}
 use Rattle.device.specs.Disk.{Disk, Plate, Shown}
 use Rattle.device.specs.Meaning.{Wrote, Write}
 use Rattle.device.specs.Trace.{Act, wrote, Done, Tries}
 use Rattle.device.proofs.Plans.{Working, work_begins, work_goes, work_ends, work_cut, write_tried}
-use Rattle.record.specs.Entry.{Entry}
 use Rattle.journal.specs.declared.note.Note.{Note}
 use Rattle.journal.specs.Log.{said}
-use Rattle.journal.specs.Notes.{Notes}
+use Rattle.journal.specs.Notes.{Tells}
 use Rattle.journal.specs.Opening.{strays}
 use Rattle.recovery.specs.Format.{blank}
 use Rattle.recovery.specs.Clearing.{Yields, astray, blanking}
@@ -47,9 +44,8 @@ unfolding strays
 strays_more n shows c i = rw add-one refl
 
 -- what a note tells of its place
-pub noted_astray : (n : ℕ) (shows : ℕ → Shown) (c p : ℕ) (o : Option Note) (b : Bool) → Notes (said n p (shows p)) o → MatchOption o (b ≡ false) (λ x. b ≡ ltb c x.head.serial) → astray n shows c p ≡ b
-noted_astray n shows c p None b h k = ap (λ (e : Entry). ltb c e.serial) h ∙ le-ltb c 0 (omega arith) ∙ sym k
-noted_astray n shows c p (Some x) b h k = ap (ltb c) (sym h.serial) ∙ sym k
+pub noted_astray : (n : ℕ) (shows : ℕ → Shown) (c p : ℕ) (x : Note) (b : Bool) → Tells (said n p (shows p)) x → b ≡ ltb c x.serial → astray n shows c p ≡ b
+noted_astray n shows c p x b h k = ap (ltb c) (sym h.serial) ∙ sym k
 
 -- how far the clearing has come
 pub record ClearedTo (d m : Disk) (n c i count : ℕ) : Type 0 where

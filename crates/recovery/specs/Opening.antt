@@ -4,11 +4,11 @@ use Rattle.device.specs.declared.fault.DeviceFault.TheVariants.{Power, Misaddres
 use Rattle.device.specs.Disk.{Disk, Shown}
 use Rattle.device.specs.Meaning.{Failed, Lost, Restarted}
 use Rattle.device.specs.Trace.{Done, CutShort}
-use Rattle.journal.specs.declared.survey.Survey.{Survey}
 use Rattle.journal.specs.Log.{log}
 use Rattle.journal.specs.Opening.{Names, Runs, Usable, Remembers, Finds, HasNoLog, HasNoMark, Uncovered as Bare}
 use Rattle.journal.specs.Pages.{Tabled}
 use Rattle.recovery.specs.declared.fault.RecoveryFault.{RecoveryFault}
+use Rattle.recovery.specs.declared.opening.Recovery.{Recovery}
 use Rattle.recovery.specs.declared.places.Places.{Places}
 use Rattle.recovery.specs.declared.fault.RecoveryFault.TheVariants.{Device, Size, NoLog, NoMark, Uncovered}
 use Rattle.recovery.specs.Clearing.{clearing}
@@ -35,10 +35,11 @@ Sees n d found (Err NoLog) e = (e ≡ d) × Refuses n d.shows NoLog
 Sees n d found (Err (NoMark low)) e = (e ≡ d) × Refuses n d.shows (NoMark low)
 Sees n d found (Err (Uncovered page)) e = (e ≡ d) × Refuses n d.shows (Uncovered page)
 
--- The memory of a log was rebuilt from its homes and its records from low to c.
-pub record Rebuilt (n : ℕ) (shows : ℕ → Shown) (low c : ℕ) (memory : List ℕ) : Type 0 where
+-- The memory of a log was rebuilt from its homes and its records from low to c, which carries this ordinal.
+pub record Rebuilt (n : ℕ) (shows : ℕ → Shown) (low c : ℕ) (memory : List ℕ) (ordinal : ℕ) : Type 0 where
   pub homes : (p : ℕ) → p < 64 → Usable n shows (log n shows) low c p
   pub bytes : Remembers n shows low c memory
+  pub number : ordinal ≡ (log n shows c).ordinal
 
 -- Power failed while the strays above c were cleared.
 pub record CutClearing (n : ℕ) (d : Disk) (o : ℕ) (e : Disk) : Type 0 where
@@ -51,12 +52,13 @@ pub record CutClearing (n : ℕ) (d : Disk) (o : ℕ) (e : Disk) : Type 0 where
   pub cut : CutShort d (clearing n d.shows c) o e
 
 -- What an opening of a log of n sectors makes of a device that was just restarted. It answers what it
--- found, with the page table of that, and how many strays it cleared; or it refuses, with no sector written; or power fails, while it
+-- found, how many strays it cleared, and the table of the records from low on; or it refuses, with no sector written; or power fails, while it
 -- reads or while it clears.
-abbrev pub Recovers : ℕ → Disk → Result (Survey × ℕ) RecoveryFault → Disk → List ℕ → Type 0
+abbrev pub Recovers : ℕ → Disk → Result Recovery RecoveryFault → Disk → List ℕ → Type 0
 Recovers n d (Ok x) e memory =
-    Finds n d.shows x.0.ordinal x.1 x.0.low x.0.last memory × Done d (clearing n d.shows x.0.last) e
-    × Tabled (log n d.shows) x.0.low (x.0.last + 1 - x.0.low) x.0.pages
+    Finds n d.shows x.ordinal x.strays x.low x.last memory
+    × Done d (clearing n d.shows x.last) e
+    × Tabled (log n d.shows) x.low (x.last + 1 - x.low) x.pages
 Recovers n d (Err (Device (Power o))) e memory = Failed d o e ⊎ CutClearing n d o e
 Recovers n d (Err (Device (Misaddressed _ _))) e memory = ⊥
 Recovers n d (Err (Device Unfit)) e memory = ⊥
@@ -95,7 +97,7 @@ NoRestart d (Err (Uncovered _)) e = ⊥
 
 -- An opening of a device, on or off. The number of sectors is tested first, and leaves a device that is
 -- refused for it as it was, on or off; then the device is restarted.
-abbrev pub Opens : Disk → Result (Survey × ℕ) RecoveryFault → Disk → List ℕ → Type 0
+abbrev pub Opens : Disk → Result Recovery RecoveryFault → Disk → List ℕ → Type 0
 Opens d r e memory =
     ((count : ℕ) × (r ≡ Err (Size count)) × Divided d.plate.sectors (Err (Size count)) × (e ≡ d))
     ⊎ ((n : ℕ) × Divides d.plate.sectors n × (NoRestart d r e ⊎ ((m : Disk) × Restarted d m × Recovers n m r e memory)))

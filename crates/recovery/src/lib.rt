@@ -12,5 +12,5 @@ mod reading;
 pub use fault::RecoveryFault;
 pub use format::{format_log, write_record};
 pub use journal::MEMORY;
-pub use opening::open_log;
-pub use reading::note_at;
+pub use opening::{Recovery, open_log};
+pub use reading::{Mention, note_at};

@@ -9,49 +9,77 @@ use crate::clearing::clear;
 use crate::fault::RecoveryFault;
 use crate::places::{MOST, Places};
 use crate::reading::{load_homes, replay, scan};
-use device::Device;
-use journal::{Note, Survey, survey_of};
+use device::{Device, SECTOR};
+use journal::{Note, PageTable, Survey, survey_of};
 
-// Notes what every sector of the log says, and surveys it.
-fn inspect<D: Device>(device: &mut D, notes: &mut [Option<Note>]) -> Result<Survey, RecoveryFault>
+// What an opening found.
+#[derive(Clone, Copy)]
+pub struct Recovery {
+    // The serial of the mark that the log begins with, and that of its last record.
+    pub low: u64,
+    pub last: u64,
+    // The number of the last transaction.
+    pub ordinal: u64,
+    // How many strays were cleared.
+    pub strays: usize,
+    // What the records from low to last say of the pages.
+    pub pages: PageTable,
+}
+
+// Notes what every place of the log holds, and surveys it.
+fn inspect<D: Device>(
+    device: &mut D,
+    notes: &mut [Note],
+    buffer: &mut [u8; SECTOR],
+) -> Result<Survey, RecoveryFault>
     requires { length notes.old ≤ (D.Device.disk device.old).plate.sectors }
     ensures { Sees (length notes.new) (D.Device.disk device.old) (λ s. Noted (length notes.new) (D.Device.disk device.old).shows notes.new × Surveyed (length notes.new) (D.Device.disk device.old).shows s) result (D.Device.disk device.new) }
 {
-    scan(device, notes)?;
-    Ok(survey_of(notes)?)
+    let latest = scan(device, notes, buffer)?;
+    Ok(survey_of(notes, latest)?)
 }
 
-// Makes the memory from the homes and the records of a log that was surveyed.
+// Makes the memory from the homes and the records of a log that was surveyed, and answers the ordinal of the last.
 fn rebuild<D: Device>(
     device: &mut D,
     places: Places,
+    notes: &[Note],
     survey: &Survey,
+    buffer: &mut [u8; SECTOR],
     memory: &mut [u8; MEMORY],
-) -> Result<(), RecoveryFault>
+) -> Result<u64, RecoveryFault>
+    requires sized { length notes.now ≡ places.count }
     requires room { places.count + 64 ≤ (D.Device.disk device.old).plate.sectors }
+    requires noted { Noted places.count (D.Device.disk device.old).shows notes.now }
     requires seen { Surveyed places.count (D.Device.disk device.old).shows survey.now }
-    ensures { Sees places.count (D.Device.disk device.old) (λ _. Rebuilt places.count (D.Device.disk device.old).shows survey.now.low survey.now.last memory.new) result (D.Device.disk device.new) }
+    ensures { Sees places.count (D.Device.disk device.old) (Rebuilt places.count (D.Device.disk device.old).shows survey.now.low survey.now.last memory.new) result (D.Device.disk device.new) }
 {
-    load_homes(device, places, survey, memory)?;
-    replay(device, places, survey.low, survey.last, memory)?;
-    Ok(())
+    load_homes(device, places, survey, buffer, memory)?;
+    Ok(replay(device, notes, survey, buffer, memory)?)
 }
 
-// Recovers a log on a device that was just restarted. Answers the survey and how many strays were cleared.
+// Recovers a log on a device that was just restarted.
 fn recover<D: Device>(
     device: &mut D,
     places: Places,
-    notes: &mut [Option<Note>],
+    notes: &mut [Note],
     memory: &mut [u8; MEMORY],
-) -> Result<(Survey, usize), RecoveryFault>
+) -> Result<Recovery, RecoveryFault>
     requires sized { length notes.old ≡ places.count }
     requires room { places.count + 64 ≤ (D.Device.disk device.old).plate.sectors }
     ensures { Recovers places.count (D.Device.disk device.old) result (D.Device.disk device.new) memory.new }
 {
-    let survey = inspect(device, notes)?;
-    rebuild(device, places, &survey, memory)?;
+    let mut buffer = [0; SECTOR];
+    let survey = inspect(device, notes, &mut buffer)?;
+    let ordinal = rebuild(device, places, notes, &survey, &mut buffer, memory)?;
     let strays = clear(device, notes, survey.last)?;
-    Ok((survey, strays))
+    Ok(Recovery {
+        low: survey.low,
+        last: survey.last,
+        ordinal,
+        strays,
+        pages: survey.pages,
+    })
 }
 
 // The same with room for the notes.
@@ -59,11 +87,11 @@ fn recover_places<D: Device>(
     device: &mut D,
     places: Places,
     memory: &mut [u8; MEMORY],
-) -> Result<(Survey, usize), RecoveryFault>
+) -> Result<Recovery, RecoveryFault>
     requires { places.count + 64 ≤ (D.Device.disk device.old).plate.sectors }
     ensures { Recovers places.count (D.Device.disk device.old) result (D.Device.disk device.new) memory.new }
 {
-    let mut notes = [None; MOST];
+    let mut notes = [Note::BLANK; MOST];
     recover(device, places, &mut notes[..places.count], memory)
 }
 
@@ -71,8 +99,9 @@ fn recover_places<D: Device>(
 pub fn open_log<D: Device>(
     device: &mut D,
     memory: &mut [u8; MEMORY],
-) -> Result<(Survey, usize), RecoveryFault>
-    ensures { Opens (D.Device.disk device.old) result (D.Device.disk device.new) memory.new }
+) -> Result<Recovery, RecoveryFault>
+    ensures opens { Opens (D.Device.disk device.old) result (D.Device.disk device.new) memory.new }
+    ensures whole { length memory.new ≡ 6144 }
 {
     let places = Places::try_from(device.sectors())?;
     device.restart()?;

@@ -1,30 +1,32 @@
-// Reading the sectors of a device into memory.
-ghost use Rattle.std.specs.Prelude.{◌≡◌, ℕ, ◌+◌, ◌-◌, ◌/◌, ◌%◌, ◌^◌, ◌<◌, ◌≤◌, ◌==◌, if◌then◌else◌, length, slice_index};
+// Reading the sectors of a device: each into one buffer that is lent, and from there into notes and the memory.
+ghost use Rattle.std.specs.Prelude.{◌≡◌, ℕ, ◌+◌, ◌/◌, ◌%◌, ◌^◌, ◌<◌, ◌≤◌, ◌==◌, if◌then◌else◌, length, take, drop, slice_index, slice_index_or};
 ghost use Rattle.device.specs.Disk.{holds};
 ghost use Rattle.journal.specs.Log.{log, said, if_serial};
-ghost use Rattle.journal.specs.Memory.{overlaid, applied, place_of, replayed};
-ghost use Rattle.journal.specs.Notes.{Notes, Noted};
+ghost use Rattle.journal.specs.Memory.{overlaid, applied, replayed};
+ghost use Rattle.journal.specs.Notes.{Tells, Noted, met, Topped, blank};
 ghost use Rattle.journal.specs.Survey.{Surveyed};
-ghost use Rattle.record.specs.Entry.{entry};
 ghost use Rattle.recovery.specs.Opening.{Sees};
-ghost use Rattle.recovery.specs.Reading.{Looks, Fetched, HomeLoaded, HomesLoaded};
+ghost use Rattle.recovery.specs.Reading.{Looks, Fetched, Mentions, HomeLoaded, HomesLoaded, Replayed, ReplayedAll};
 
 use crate::MEMORY;
 use crate::fault::RecoveryFault;
 use crate::places::Places;
 use device::{Device, DeviceFault, SECTOR};
-use journal::{Note, Survey, look_at, of_serial};
-use record::{PAGE, Record};
+use journal::{Latest, Note, Survey, next_place, note_of};
+use record::{DATA, Kind, PAGE, PAGES, label_at, ordinal_of};
 
-// The bytes of a sector, or none where it is spoiled. That it is there is a premise, here and below, since what notes
-// a record is public and asks nothing.
-fn fetch<D: Device>(device: &mut D, sector: usize) -> Result<Option<[u8; SECTOR]>, DeviceFault>
-    ensures { sector < (D.Device.disk device.old).plate.sectors → Looks (D.Device.disk device.old) (Fetched (D.Device.disk device.old) sector) result (D.Device.disk device.new) }
+// Reads a sector into the buffer; false where it is spoiled. That it is there is a premise, here and below, since what
+// mentions a record is public and asks nothing.
+fn fetch<D: Device>(
+    device: &mut D,
+    sector: usize,
+    buffer: &mut [u8; SECTOR],
+) -> Result<bool, DeviceFault>
+    ensures { sector < (D.Device.disk device.old).plate.sectors → Looks (D.Device.disk device.old) (Fetched (D.Device.disk device.old) sector buffer.new) result (D.Device.disk device.new) }
 {
-    let mut bytes = [0u8; SECTOR];
-    match device.read(sector, &mut bytes) {
-        Ok(()) => Ok(Some(bytes)),
-        Err(DeviceFault::Spoiled(_, _)) => Ok(None),
+    match device.read(sector, buffer) {
+        Ok(()) => Ok(true),
+        Err(DeviceFault::Spoiled(_, _)) => Ok(false),
         Err(fault) => Err(fault),
     }
 }
@@ -51,15 +53,19 @@ fn load_home<D: Device>(
     device: &mut D,
     places: Places,
     page: usize,
+    buffer: &mut [u8; SECTOR],
     memory: &mut [u8; MEMORY],
 ) -> Result<bool, DeviceFault>
     requires page { page < 64 }
     requires room { places.count + 64 ≤ (D.Device.disk device.old).plate.sectors }
     ensures { Looks (D.Device.disk device.old) (HomeLoaded (D.Device.disk device.old) places.count page memory.old memory.new) result (D.Device.disk device.new) }
 {
-    let home = fetch(device, places.home_of(page))?;
-    put_page(memory, page, &home.unwrap_or([0u8; SECTOR]));
-    Ok(home.is_some())
+    let readable = fetch(device, places.home_of(page), buffer)?;
+    if !readable {
+        *buffer = [0; SECTOR];
+    }
+    put_page(memory, page, buffer);
+    Ok(readable)
 }
 
 // Starts every page from its home, the lowest first. A page whose home is spoiled and that no record of
@@ -68,120 +74,153 @@ pub(crate) fn load_homes<D: Device>(
     device: &mut D,
     places: Places,
     survey: &Survey,
+    buffer: &mut [u8; SECTOR],
     memory: &mut [u8; MEMORY],
 ) -> Result<(), RecoveryFault>
     requires room { places.count + 64 ≤ (D.Device.disk device.old).plate.sectors }
     requires seen { Surveyed places.count (D.Device.disk device.old).shows survey.now }
-    ensures { Sees places.count (D.Device.disk device.old) (λ _. HomesLoaded (D.Device.disk device.old) places.count survey.now.covered memory.new) result (D.Device.disk device.new) }
+    ensures { Sees places.count (D.Device.disk device.old) (λ _. HomesLoaded (D.Device.disk device.old) places.count survey.now.pages memory.new) result (D.Device.disk device.new) }
 {
-    for (page, covered) in survey.covered.iter().enumerate() {
-        let readable = load_home(device, places, page, memory)?;
-        if !readable && !covered {
+    for page in 0..PAGES {
+        let readable = load_home(device, places, page, buffer, memory)?;
+        if !readable && !survey.pages.is_covered(page) {
             return Err(RecoveryFault::Uncovered(page));
         }
     }
     Ok(())
 }
 
-// Puts the bytes of a record in their place; a mark has none.
-fn apply(record: &Record, memory: &mut [u8; MEMORY])
-    requires { place_of (entry «record».now) + length (entry «record».now).bytes ≤ 6144 }
-    ensures { (i : ℕ) → slice_index memory.new i ≡ applied (entry «record».now) i (slice_index memory.old i) }
+// Puts so many bytes of a sector, after a label, into memory from `place` on.
+fn put_part(memory: &mut [u8; MEMORY], place: usize, sector: &[u8; SECTOR], size: usize)
+    requires { (size ≤ 96) × (place + size ≤ 6144) }
+    ensures { (i : ℕ) → slice_index memory.new i ≡ overlaid place (take size (drop 32 sector.now)) i (slice_index memory.old i) }
 {
-    match *record {
-        Record::Part {
-            page,
-            offset,
-            bytes,
-            ..
-        } => put_bytes(memory, page as usize * PAGE + offset as usize, bytes),
-        Record::Page { page, bytes, .. } => put_bytes(memory, page as usize * PAGE, bytes),
-        Record::Mark { .. } => {}
-    }
+    put_bytes(memory, place, &sector[DATA..DATA + size]);
 }
 
-// Applies the record in a sector, where it has this serial.
-fn apply_serial(sector: &[u8], place: usize, places: usize, serial: u64, memory: &mut [u8; MEMORY])
-    ensures { (i : ℕ) → slice_index memory.new i ≡ applied (if_serial serial (said places place (holds sector.now))) i (slice_index memory.old i) }
+// Puts the bytes of the record in a sector in their place, as its note tells; a mark has none.
+fn apply(note: Note, sector: &[u8; SECTOR], place: usize, places: usize, memory: &mut [u8; MEMORY])
+    requires { Tells (said places place (holds sector.now)) note }
+    ensures { (i : ℕ) → slice_index memory.new i ≡ applied (said places place (holds sector.now)) i (slice_index memory.old i) }
 {
-    let Some(record) = record::read(sector, place, places) else {
-        return;
-    };
-    if record.head().serial == serial {
-        apply(&record, memory);
-    }
+    let start = note.page as usize * PAGE + note.offset as usize;
+    put_part(memory, start, sector, note.size as usize);
 }
 
-// Applies the record with this serial, where the log has it.
-fn replay_one<D: Device>(
+// Applies what this place holds.
+fn replay_place<D: Device>(
     device: &mut D,
-    places: Places,
-    serial: u64,
+    notes: &[Note],
+    place: usize,
+    buffer: &mut [u8; SECTOR],
     memory: &mut [u8; MEMORY],
 ) -> Result<(), DeviceFault>
-    requires { places.count + 64 ≤ (D.Device.disk device.old).plate.sectors }
-    ensures { Looks (D.Device.disk device.old) (λ _. (i : ℕ) → slice_index memory.new i ≡ applied (log places.count (D.Device.disk device.old).shows serial) i (slice_index memory.old i)) result (D.Device.disk device.new) }
+    requires inside { place < length notes.now }
+    requires there { place < (D.Device.disk device.old).plate.sectors }
+    requires tells { Tells (said (length notes.now) place ((D.Device.disk device.old).shows place)) (slice_index_or notes.now place blank) }
+    ensures { Looks (D.Device.disk device.old) (λ _. Replayed (D.Device.disk device.old) (length notes.now) place buffer.new memory.old memory.new) result (D.Device.disk device.new) }
 {
-    let place = places.place_of(serial);
-    if let Some(sector) = fetch(device, place)? {
-        apply_serial(&sector, place, places.count, serial, memory);
+    if fetch(device, place, buffer)? {
+        apply(notes[place], buffer, place, notes.len(), memory);
     }
     Ok(())
 }
 
-// Applies the records from `low` to `last` in their order.
+// Applies the records from `low` to `last` in their order, and answers the ordinal that the last of them carries.
 pub(crate) fn replay<D: Device>(
     device: &mut D,
-    places: Places,
-    low: u64,
-    last: u64,
+    notes: &[Note],
+    survey: &Survey,
+    buffer: &mut [u8; SECTOR],
     memory: &mut [u8; MEMORY],
-) -> Result<(), DeviceFault>
-    requires room { places.count + 64 ≤ (D.Device.disk device.old).plate.sectors }
-    requires forward { (low ≤ last) × (last < 2 ^ 63) }
-    ensures { Looks (D.Device.disk device.old) (λ _. (i : ℕ) → slice_index memory.new i ≡ replayed (log places.count (D.Device.disk device.old).shows) low (last + 1 - low) (λ j. slice_index memory.old j) i) result (D.Device.disk device.new) }
+) -> Result<u64, DeviceFault>
+    requires room { length notes.now ≤ (D.Device.disk device.old).plate.sectors }
+    requires noted { Noted (length notes.now) (D.Device.disk device.old).shows notes.now }
+    requires seen { Surveyed (length notes.now) (D.Device.disk device.old).shows survey.now }
+    ensures { Looks (D.Device.disk device.old) (ReplayedAll (length notes.now) (D.Device.disk device.old) survey.now.low survey.now.last memory.old memory.new) result (D.Device.disk device.new) }
 {
-    for serial in low..=last {
-        replay_one(device, places, serial, memory)?;
+    let places = notes.len();
+    let mut place = (survey.low % places as u64) as usize;
+    for _serial in survey.low..survey.last {
+        replay_place(device, notes, place, buffer, memory)?;
+        place = next_place(place, places);
     }
-    Ok(())
+    replay_place(device, notes, place, buffer, memory)?;
+    Ok(ordinal_of(buffer))
 }
 
-// The note of the sector at this place of the log.
-fn look<D: Device>(device: &mut D, place: usize, places: usize) -> Result<Option<Note>, DeviceFault>
-    ensures { place < (D.Device.disk device.old).plate.sectors → Looks (D.Device.disk device.old) (Notes (said places place ((D.Device.disk device.old).shows place))) result (D.Device.disk device.new) }
-{
-    let sector = fetch(device, place)?;
-    Ok(
-        sector
-            .as_ref()
-            .and_then(|sector| look_at(sector, place, places)),
-    )
+// What a record says of a page, and its kind.
+#[derive(Clone, Copy)]
+pub struct Mention {
+    pub kind: Kind,
+    pub page: u16,
+    // Whether the record's bytes are a whole page.
+    pub whole: bool,
 }
 
-// The note of the record with this serial, where the log has it. A log with no places has none.
+// What the record with this serial says, where the log has it. A log with no places has none.
 pub fn note_at<D: Device>(
     device: &mut D,
     places: usize,
     serial: u64,
-) -> Result<Option<Note>, DeviceFault>
-    ensures { places ≤ (D.Device.disk device.old).plate.sectors → Looks (D.Device.disk device.old) (Notes (log places (D.Device.disk device.old).shows serial)) result (D.Device.disk device.new) }
+) -> Result<Option<Mention>, DeviceFault>
+    ensures { places ≤ (D.Device.disk device.old).plate.sectors → Looks (D.Device.disk device.old) (Mentions (log places (D.Device.disk device.old).shows serial)) result (D.Device.disk device.new) }
 {
     let Some(place) = serial.checked_rem(places as u64) else {
         return Ok(None);
     };
-    let note = look(device, place as usize, places)?;
-    Ok(of_serial(note, serial))
+    let mut buffer = [0; SECTOR];
+    if !fetch(device, place as usize, &mut buffer)? {
+        return Ok(None);
+    }
+    Ok(mention_at(&buffer, place as usize, places, serial))
 }
 
-// Notes what each sector of the log says.
-pub(crate) fn scan<D: Device>(device: &mut D, notes: &mut [Option<Note>]) -> Result<(), DeviceFault>
+// What the record with this serial says, where this place holds it.
+fn mention_at(sector: &[u8; SECTOR], place: usize, places: usize, serial: u64) -> Option<Mention>
+    ensures { Mentions (if_serial serial (said places place (holds sector.now))) result }
+{
+    let label = label_at(sector, place, places)?;
+    if label.head.serial != serial {
+        return None;
+    }
+    Some(Mention {
+        kind: label.kind,
+        page: label.page,
+        whole: label.length == PAGE,
+    })
+}
+
+// The note of what this place of the log holds, which is met too.
+fn look<D: Device>(
+    device: &mut D,
+    place: usize,
+    places: usize,
+    buffer: &mut [u8; SECTOR],
+    latest: &mut Latest,
+) -> Result<Note, DeviceFault>
+    requires { place < (D.Device.disk device.old).plate.sectors }
+    ensures { Looks (D.Device.disk device.old) (λ note. Tells (said places place ((D.Device.disk device.old).shows place)) note × (latest.new ≡ met (said places place ((D.Device.disk device.old).shows place)) latest.old)) result (D.Device.disk device.new) }
+{
+    if !fetch(device, place, buffer)? {
+        return Ok(Note::BLANK);
+    }
+    Ok(note_of(buffer, place, places, latest))
+}
+
+// Notes what each place of the log holds, and answers the latest record.
+pub(crate) fn scan<D: Device>(
+    device: &mut D,
+    notes: &mut [Note],
+    buffer: &mut [u8; SECTOR],
+) -> Result<Latest, DeviceFault>
     requires { length notes.old ≤ (D.Device.disk device.old).plate.sectors }
-    ensures { Looks (D.Device.disk device.old) (λ _. Noted (length notes.new) (D.Device.disk device.old).shows notes.new) result (D.Device.disk device.new) }
+    ensures { Looks (D.Device.disk device.old) (λ latest. Noted (length notes.new) (D.Device.disk device.old).shows notes.new × Topped (length notes.new) (D.Device.disk device.old).shows (length notes.new) latest) result (D.Device.disk device.new) }
 {
     let places = notes.len();
+    let mut latest = Latest::new();
     for (place, note) in notes.iter_mut().enumerate() {
-        *note = look(device, place, places)?;
+        *note = look(device, place, places, buffer, &mut latest)?;
     }
-    Ok(())
+    Ok(latest)
 }

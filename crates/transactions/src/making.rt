@@ -56,7 +56,8 @@ pub(crate) fn format_into<D: Device>(device: &mut D, state: &mut State) -> Resul
     Ok(())
 }
 
-// Opens the device, and sets the store on what was found.
+// Opens the device, and sets the store on what was found. The memory is made in its place: until that is done, all of
+// its bytes are declared.
 pub(crate) fn open_into<D: Device>(
     device: &mut D,
     state: &mut State,
@@ -67,16 +68,16 @@ pub(crate) fn open_into<D: Device>(
     ensures table { TableStands state.new (D.Device.disk device.new) }
 {
     let sectors = device.sectors();
-    let mut memory = [0u8; MEMORY];
-    let (survey, strays) = open_log(device, &mut memory)?;
-    state.image = Image::of(memory);
+    state.image.declare(0, MEMORY)?;
+    let found = open_log(device, &mut state.image.memory)?;
+    state.image.keep();
     state.log = Log {
         places: sectors - PAGES,
-        low: survey.low,
-        last: survey.last,
-        ordinal: survey.ordinal,
+        low: found.low,
+        last: found.last,
+        ordinal: found.ordinal,
     };
-    state.pages = survey.pages;
+    state.pages = found.pages;
     state.on = true;
-    Ok((survey.ordinal, strays))
+    Ok((found.ordinal, found.strays))
 }

@@ -1,7 +1,8 @@
 -- Each turn clears one place more, or passes it over.
-use Rattle.std.proofs.Common.{◌≡◌, None, length, get_or, ◌∙◌}
+use Rattle.std.proofs.Common.{◌≡◌, length, get_or, ◌∙◌}
 use Rattle.std.proofs.lemmas.Result.{err_from_is_err_and}
 use Rattle.recovery.specs.Clearing.{astray, blanking}
+use Rattle.journal.specs.Notes.{blank}
 use Rattle.journal.specs.Opening.{strays}
 use Rattle.recovery.proofs.Strays.{noted_astray, clear_begins, clear_writes, clear_passes, clear_cut, clear_ends, yields_cut}
 use Rattle.recovery.proofs.clearing.blank_strays.Goals as goal
@@ -17,7 +18,7 @@ returns-in_err-write g c =
     let e = g.D.Device.disk c.write.new.self in
     let n = length c.args.notes.now in
     let i = c.loop-place.place in
-    let t = noted_astray n d.shows c.args.last i (get_or c.args.notes.now i None) c.is_stray.result (c.requires.noted.each i c.loop-place-test.true) c.is_stray.ensures ∙ c.if-is_stray.true in
+    let t = noted_astray n d.shows c.args.last i (get_or c.args.notes.now i blank) c.is_stray.result (c.requires.noted.each i c.loop-place-test.true) c.is_stray.ensures ∙ c.if-is_stray.true in
     let p = err_from_is_err_and c.from_residual.result c.from_residual.ensures.1 in
     let f = c.in_err-write.field-0.0 in
     rw (p.1, p.2)
@@ -30,7 +31,7 @@ loop-place-preserved g c =
     let m = g.D.Device.disk c.loop-place.device in
     let n = length c.args.notes.now in
     let i = c.loop-place.place in
-    let test = noted_astray n d.shows c.args.last i (get_or c.args.notes.now i None) c.is_stray.result (c.requires.noted.each i c.loop-place-test.true) c.is_stray.ensures in
+    let test = noted_astray n d.shows c.args.last i (get_or c.args.notes.now i blank) c.is_stray.result (c.requires.noted.each i c.loop-place-test.true) c.is_stray.ensures in
     elim c.if-is_stray.branch [
       | then-is_stray+in_ok-write w ↦
           rw (w.device-is, w.count-is)

@@ -1,21 +1,22 @@
 -- The page is what its home shows.
-use Rattle.std.proofs.Common.{◌≡◌, ℕ, ◌/◌, ◌%◌, Bool, cond, eqb, List, get_or, replicate, sym, ap, ◌∙◌, subst, arith}
-use Rattle.std.specs.Option.{unwrap_or}
-use Rattle.recovery.specs.Reading.{Fetched, HomeLoaded}
+use Rattle.std.proofs.Common.{◌≡◌, ℕ, Bool, cond, List, replicate, subst, ◌∙◌, arith}
+use Rattle.recovery.specs.Reading.{Fetched}
 use Rattle.recovery.proofs.Homes.{home_loaded}
 use Rattle.recovery.proofs.reading.load_home.Goals as goal
+use Rattle.recovery.proofs.reading.load_home.Goals.{then-not-readable, else-not-readable}
 
 pub returns : goal.returns
 returns g c =
     let d = g.D.Device.disk c.args.device.now in
     let n = c.args.places.count in
     let p = c.args.page in
-    let before = c.args.memory.now in
-    let after = c.put_page.new.memory in
-    let home = c.in_ok-home.home in
-    let f = c.in_ok-home.ensures (omega (arith, c.home_of.ensures)) in
-    let put : (i : ℕ) → get_or after i 0 ≡ cond (eqb (i / 96) p) (get_or (unwrap_or home (replicate 128 0)) (i % 96) 0) (get_or before i 0) =
-    λ i. c.put_page.ensures i ∙ ap (λ (xs : List ℕ). cond (eqb (i / 96) p) (get_or xs (i % 96) 0) (get_or before i 0)) c.unwrap_or.ensures
+    let bytes = c.fetch.new.buffer in
+    let r = c.in_ok-readable.readable in
+    let f = c.in_ok-readable.ensures (omega (arith, c.home_of.ensures)) in
+    let is : c.if-not-readable.buffer ≡ cond r bytes (replicate 128 0) =
+    elim c.if-not-readable.branch [
+      | then-not-readable w ↦ let t = w.if-not-readable.true in rw t w.buffer-is
+      | else-not-readable w ↦ let t = w.if-not-readable.false in rw t w.buffer-is
+    ]
     in
-    let loaded = home_loaded d n p before after home (subst (λ (s : ℕ). Fetched d s home) c.home_of.ensures f.1) put in
-    (f.0, subst (λ (b : Bool). HomeLoaded d n p before after b) (sym c.is_some.ensures) loaded)
+    (f.0, home_loaded d n p c.args.memory.now c.put_page.new.memory bytes c.if-not-readable.buffer r (subst (λ (s : ℕ). Fetched d s bytes r) c.home_of.ensures f.1) is c.put_page.ensures)

@@ -1,58 +1,106 @@
 -- What the opening found is what the store is set on.
-use Rattle.std.proofs.Common.{◌≡◌, ℕ, ◌^◌, ◌<◌, ◌≤◌, List, Ok, Err, ◌-◌, refl, inl, inr, arith}
-use Rattle.std.proofs.lemmas.Result.{err_from_is_err_and}
+use Rattle.std.proofs.Common.{◌≡◌, ℕ, ◌-◌, ◌^◌, ◌<◌, ◌≤◌, true, List, [], ◌∷◌, length, get_or, Ok, Err, sym, refl, ap, ◌∙◌, subst, inl, inr, ⊎_elim, rules, lit≤, arith}
+use Rattle.std.proofs.lemmas.Bool.{cases_lt}
+use Rattle.std.proofs.lemmas.List.{get_or_past}
 use Rattle.device.specs.Disk.{Disk}
-use Rattle.journal.specs.declared.survey.Survey.{Survey}
+use Rattle.device.specs.Trace.{Done}
 use Rattle.journal.specs.Log.{log}
+use Rattle.journal.specs.Opening.{Finds}
 use Rattle.journal.proofs.Places.{kept}
 use Rattle.recovery.specs.declared.fault.RecoveryFault.{RecoveryFault}
 use Rattle.recovery.specs.declared.fault.RecoveryFault.TheVariants.{Size}
+use Rattle.recovery.specs.declared.opening.Recovery.{Recovery}
 use Rattle.recovery.specs.Opening.{Opens}
-use Rattle.arrayvec.specs.ArrayVec.{array_vec_len}
+use Rattle.recovery.specs.Clearing.{clearing}
+use Rattle.image.specs.declared.run.Run.{Run}
+use Rattle.image.specs.Runs.{run, Declared, joined}
+use Rattle.image.specs.Calls.{declared}
+use Rattle.image.proofs.Alone.{runs_are_joined}
 use Rattle.transactions.specs.declared.state.State.{State}
+use Rattle.arrayvec.specs.ArrayVec.{array_vec_len}
+use Rattle.transactions.specs.State.{StandsAt, Idle, OpenOn}
 use Rattle.transactions.specs.Pages.{Tabulates, Writable}
 use Rattle.transactions.proofs.Tabling.{off_stands, opened_stands}
+use Rattle.std.proofs.lemmas.Result.{err_from_is_err_and}
 use Rattle.transactions.proofs.making.open_into.Goals as goal
 
 not_err : {A : Type 0} (x : A) (f : RecoveryFault) → Ok x ≡ Err f → ⊥
 not_err x f e = let z : ◌≡◌ {A = ℕ} 0 1 = cc in omega arith
 
 -- what is found is a record, whose serial and ordinal have their bounds
-found_bounds : (d e : Disk) (s : Survey) (count : ℕ) (memory : List ℕ) → Opens d (Ok (s, count)) e memory → (s.last < 2 ^ 63) × (s.ordinal ≤ s.last)
-found_bounds d e s count memory (inl (k, err, _, _)) = absurd (not_err (s, count) (Size k) err)
-found_bounds d e s count memory (inr (n, divides, inl h)) = absurd h
-found_bounds d e s count memory (inr (n, divides, inr (m, restart, (finds, cleared, tabled)))) =
-    let here : 1 ≤ (log n m.shows s.last).kind = omega (arith, finds.run.ends) in
-    let k = kept n m.shows s.last here in
+found_bounds : (d e : Disk) (r : Recovery) (memory : List ℕ) → Opens d (Ok r) e memory → (r.last < 2 ^ 63) × (r.ordinal ≤ r.last)
+found_bounds d e r memory (inl (k, err, _, _)) = absurd (not_err r (Size k) err)
+found_bounds d e r memory (inr (n, divides, inl h)) = absurd h
+found_bounds d e r memory (inr (n, divides, inr (m, restart, (finds, cleared, tabled)))) =
+    let here : 1 ≤ (log n m.shows r.last).kind = omega (arith, finds.run.ends) in
+    let k = kept n m.shows r.last here in
     (omega (arith, k.to), omega (arith, k.ordinal, finds.number))
 
--- the table that was found is that of the store
-found_stands : (s' : State) (d e : Disk) (s : Survey) (count : ℕ) (memory : List ℕ) → Opens d (Ok (s, count)) e memory → s'.log.places ≡ d.plate.sectors - 64 → s'.log.low ≡ s.low → s'.log.last ≡ s.last
-    → s'.log.ordinal ≡ s.ordinal → array_vec_len s'.spool ≡ 0 → s'.pages ≡ s.pages → Writable s' × Tabulates s' e.shows
-found_stands s' d e s count memory (inl (k, err, _, _)) places low last ordinal empty pages = absurd (not_err (s, count) (Size k) err)
-found_stands s' d e s count memory (inr (n, divides, inl h)) places low last ordinal empty pages = absurd h
-found_stands s' d e s count memory (inr (n, divides, inr (m, restart, (finds, cleared, tabled)))) places low last ordinal empty pages =
-    opened_stands n s' m e s.ordinal count s.low s.last memory s.pages (omega (arith, divides.least)) restart.quiet finds cleared tabled
-    record { places_is = omega (arith, divides.homes); low_is = low; last_is = last; ordinal_is = ordinal }
-    empty pages
+-- where all bytes are declared, any two memories may differ
+all_same : (runs : List Run) (memory before : List ℕ) → runs ≡ run 0 6144 ∷ [] → length memory ≡ 6144 → length before ≡ 6144
+    → (i : ℕ) → (Declared runs i → ⊥) → get_or memory i 0 ≡ get_or before i 0
+all_same runs memory before is whole kept i none =
+    ⊎_elim
+    (λ (inside : i < 6144). absurd (none (subst (λ (rs : List Run). Declared rs i) (sym is) (inl (omega arith, inside)))))
+    (λ past. get_or_past memory i 0 (omega arith) ∙ sym (get_or_past before i 0 (omega arith)))
+    (cases_lt i 6144)
 
-pub returns-in_err-survey : goal.returns-in_err-survey
-returns-in_err-survey g c =
-    let p = err_from_is_err_and c.from_residual.result c.from_residual.ensures.1 in
-    rw (p.1, p.2)
+-- a store that is set on what was found
+set_on : (d e : Disk) (r : Recovery) (memory : List ℕ) (s : State) → Opens d (Ok r) e memory → s.image.memory ≡ memory → StandsAt s.log (d.plate.sectors - 64) r.low r.last r.ordinal
+    → s.on ≡ true → Idle s → OpenOn d r.ordinal r.strays e s
+set_on d e r memory s (inl (k, err, _, _)) same log on idle = absurd (not_err r (Size k) err)
+set_on d e r memory s (inr (n, divides, inl h)) same log on idle = absurd h
+set_on d e r memory s (inr (n, divides, inr (m, restart, (finds, cleared, tabled)))) same log on idle =
+    let here = subst (λ (k : ℕ). Finds n m.shows r.ordinal r.strays k s.log.last s.image.memory) (sym log.low_is)
+    (subst (λ (k : ℕ). Finds n m.shows r.ordinal r.strays r.low k s.image.memory) (sym log.last_is)
+    (subst (λ (bytes : List ℕ). Finds n m.shows r.ordinal r.strays r.low r.last bytes) (sym same) finds))
+    in
     record {
-      opened = (c.in_err-survey.field-0.0, c.open_log.new.memory, refl, c.in_err-survey.ensures, c.requires.off);
-      table = off_stands c.args.state.now (g.D.Device.disk c.open_log.new.device) c.requires.off;
+      places = n;
+      divides = divides;
+      restarted = m;
+      restart = restart;
+      finds = here;
+      cleared = subst (λ (k : ℕ). Done m (clearing n m.shows k) e) (sym log.last_is) cleared;
+      on = on;
+      log_of = omega (arith, log.places_is, divides.homes);
+      number = log.ordinal_is;
+      idle = idle;
     }
+
+-- the table that was found is that of the store
+found_stands : (s' : State) (d e : Disk) (r : Recovery) (memory : List ℕ) → Opens d (Ok r) e memory → StandsAt s'.log (d.plate.sectors - 64) r.low r.last r.ordinal
+    → array_vec_len s'.spool ≡ 0 → s'.pages ≡ r.pages → Writable s' × Tabulates s' e.shows
+found_stands s' d e r memory (inl (k, err, _, _)) log empty pages = absurd (not_err r (Size k) err)
+found_stands s' d e r memory (inr (n, divides, inl h)) log empty pages = absurd h
+found_stands s' d e r memory (inr (n, divides, inr (m, restart, (finds, cleared, tabled)))) log empty pages =
+    opened_stands n s' m e r.ordinal r.strays r.low r.last memory r.pages (omega (arith, divides.least)) restart.quiet finds cleared tabled
+    (record { places_is = omega (arith, divides.homes, log.places_is); low_is = log.low_is; last_is = log.last_is; ordinal_is = log.ordinal_is })
+    empty pages
 
 pub invariant_of-state-2 : goal.invariant_of-state-2
 invariant_of-state-2 g c =
-    let b = found_bounds (g.D.Device.disk c.args.device.now) (g.D.Device.disk c.open_log.new.device) c.in_ok-survey.survey c.in_ok-survey.strays c.open_log.new.memory c.in_ok-survey.ensures in
+    let y = c.declare.new.self in
+    let runs : y.runs.items.items ≡ run 0 6144 ∷ [] = runs_are_joined 0 6144 c.args.state.now.image.runs (declared y) (lit≤ tt) c.in_ok-declare.ensures.declares ∙ ap (joined 0 6144) c.requires.idle.clean in
+    let whole = c.open_log.ensures.whole in
+    (whole, (y.kept, (all_same y.runs.items.items c.open_log.new.memory y.before runs whole y.kept, tt)))
+
+pub invariant_of-state-4 : goal.invariant_of-state-4
+invariant_of-state-4 g c =
+    let b = found_bounds (g.D.Device.disk c.args.device.now) (g.D.Device.disk c.open_log.new.device) c.in_ok-found.found c.open_log.new.memory c.in_ok-found.ensures.opens in
     record { bounded = omega (arith, b.0, c.requires.idle.empty); numbered = omega (arith, b.1) }
 
-pub returns-clause-table : goal.returns-clause-table
-returns-clause-table g c =
-    λ _.
+pub returns : goal.returns
+returns g c =
     let d = g.D.Device.disk c.args.device.now in
     let e = g.D.Device.disk c.open_log.new.device in
-    found_stands _ d e c.in_ok-survey.survey c.in_ok-survey.strays c.open_log.new.memory c.in_ok-survey.ensures (omega arith) refl refl refl c.requires.idle.empty refl
+    let k = c.keep.ensures in
+    let r = c.in_ok-found.found in
+    let stands : StandsAt _ (d.plate.sectors - 64) r.low r.last r.ordinal =
+      record { places_is = ap (λ (j : ℕ). j - 64) c.sectors-sectors.ensures; low_is = refl; last_is = refl; ordinal_is = refl } in
+    record {
+      opened =
+          set_on d e r c.open_log.new.memory _ c.in_ok-found.ensures.opens k.memory stands refl
+          (record { free = c.requires.idle.free; clean = k.clean; empty = c.requires.idle.empty; before = k.before ∙ sym k.memory });
+      table = λ _. found_stands _ d e r c.open_log.new.memory c.in_ok-found.ensures.opens stands c.requires.idle.empty refl;
+    }

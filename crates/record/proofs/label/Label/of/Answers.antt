@@ -10,10 +10,7 @@ returns c =
     grind (
       arith,
       common_steps,
-      number_in 7 0 _ sector c.part.result c.part.ensures c.from_le_bytes.ensures,
-      number_in 7 8 _ sector c.part-2.result c.part-2.ensures c.from_le_bytes-2.ensures,
-      number_in 7 16 _ sector c.part-3.result c.part-3.ensures c.from_le_bytes-3.ensures,
-      number_in 1 24 _ sector c.part-4.result c.part-4.ensures c.from_le_bytes-page.ensures,
-      number_in 1 26 _ sector c.part-5.result c.part-5.ensures c.from_le_bytes-offset.ensures,
-      number_in 1 28 _ sector c.part-6.result c.part-6.ensures c.from_le_bytes-length.ensures,
+      number_in 1 24 _ sector c.part.result c.part.ensures c.from_le_bytes-page.ensures,
+      number_in 1 26 _ sector c.part-2.result c.part-2.ensures c.from_le_bytes-offset.ensures,
+      number_in 1 28 _ sector c.part-3.result c.part-3.ensures c.from_le_bytes-length.ensures,
     )
