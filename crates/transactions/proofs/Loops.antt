@@ -1,7 +1,6 @@
 -- Records written one after another.
-use Rattle.std.proofs.Common.{◌≡◌, ℕ, zero, suc, ◌+◌, ◌%◌, ◌<◌, ◌≤◌, Bool, false, cond, eqb, List, [], ◌∷◌, ◌++◌, map, length, get_or, take, drop, Err, sym, refl, ap, ◌∙◌, subst, ⊎_elim, arith, length-append, drop-cons}
-use Rattle.std.proofs.lemmas.Bool.{cases_eq, eq-eqb, ne_eqb}
-use Rattle.std.proofs.lemmas.List.{length-map, get_or-map, drop_all, drop_more, take_more}
+use Rattle.std.proofs.Common.{◌≡◌, ℕ, suc, ◌+◌, ◌%◌, ◌<◌, ◌≤◌, List, [], ◌∷◌, ◌++◌, map, length, get_or, drop, Err, sym, refl, ap, ◌∙◌, subst, arith, length-append}
+use Rattle.std.proofs.lemmas.List.{length-map, get_or-map, drop_all, drop_more}
 use Rattle.arrayvec.specs.ArrayVec.{array_vec_len}
 use Rattle.device.specs.declared.fault.DeviceFault.{DeviceFault}
 use Rattle.device.specs.Disk.{Disk}
@@ -10,13 +9,11 @@ use Rattle.device.proofs.Plans.{Working, plan_goes, work_ends, work_cut, done_pl
 use Rattle.record.specs.Entry.{laid_out}
 use Rattle.durability.specs.Items.{Item, recorded, appending}
 use Rattle.image.specs.declared.run.Piece.{Piece}
-use Rattle.image.specs.declared.runs.Pieces.{Pieces}
-use Rattle.image.specs.Cut.{FitsPage, AllPieces, piece}
-use Rattle.image.proofs.Facts.{all_out}
+use Rattle.image.specs.Calls.{none, declared}
+use Rattle.image.specs.Cut.{cut_runs}
 use Rattle.transactions.specs.declared.state.State.{State}
-use Rattle.transactions.specs.Parts.{Spool, part, parts, item_of, waiting}
+use Rattle.transactions.specs.Parts.{Spool, parts, item_of, waiting}
 use Rattle.transactions.specs.State as state
-use Rattle.transactions.specs.Steps.{PiecesOf}
 
 -- A plan goes on by its next act, or is cut in it.
 pub going_on : (start here e : Disk) (all left rest : List Act) (a : Act) → left ≡ a ∷ rest → Working start all here left → Done here (a ∷ []) e → Working start all e rest
@@ -84,74 +81,16 @@ next_seen {X = X} f xs ys i x here same h =
 pub next_left : (xs ys : List ℕ) (i : ℕ) → xs ≡ ys → i < length xs → drop i ys ≡ get_or xs i 0 ∷ drop (i + 1) ys
 next_left xs ys i same h = subst (λ (zs : List ℕ). drop i zs ≡ get_or xs i 0 ∷ drop (i + 1) zs) same (drop_more xs i 0 h)
 
-suc_add : (i : ℕ) → suc i + 1 ≡ suc (i + 1)
-suc_add i = omega arith
-
-eqb_suc : (a b : ℕ) → eqb (suc a) (suc b) ≡ eqb a b
-eqb_suc a b =
-    ⊎_elim
-    (λ h. eq-eqb (suc a) (suc b) (omega arith) ∙ sym (eq-eqb a b h))
-    (λ h. ne_eqb (suc a) (suc b) (λ k. h (omega arith)) ∙ sym (ne_eqb a b h))
-    (cases_eq a b)
-
--- the next of a transaction's parts
-pub next_part : (o : ℕ) (memory : List ℕ) (ps : List Piece) (i : ℕ) (d : Piece) → i < length ps → drop i (parts o memory ps) ≡ part o memory (cond (eqb (i + 1) (length ps)) 2 1) (get_or ps i d) ∷ drop (i + 1) (parts o memory ps)
-next_part o memory [] i d h = absurd (omega arith)
-next_part o memory (q ∷ []) zero d h = refl
-next_part o memory (q ∷ r ∷ ps) zero d h =
-    let e : eqb (0 + 1) (suc (suc (length ps))) ≡ false = ne_eqb (0 + 1) (suc (suc (length ps))) (λ z. omega arith) in
-    rw e refl
-next_part o memory (q ∷ ps) (suc i) d h =
-    let inner : i < length ps = omega arith in
-    next_part o memory ps i d inner
-    ∙ ap (λ (b : Bool). part o memory (cond b 2 1) (get_or ps i d) ∷ drop (i + 1) (parts o memory ps)) (sym (eqb_suc (i + 1) (length ps)))
-    ∙ ap (λ (k : ℕ). part o memory (cond (eqb k (suc (length ps))) 2 1) (get_or ps i d) ∷ drop k (parts o memory (q ∷ ps))) (sym (suc_add i))
-
 pub length_parts : (o : ℕ) (memory : List ℕ) (ps : List Piece) → length (parts o memory ps) ≡ length ps
 length_parts o memory [] = refl
 length_parts o memory (p ∷ ps) = ap suc (length_parts o memory ps)
-
--- a piece of many fits its page; xs are the pieces by another name
-pub fits_at : (ps : Pieces) (xs : List Piece) (i : ℕ) (d : Piece) → xs ≡ ps.items.items → i < length xs → FitsPage (get_or xs i d)
-fits_at ps xs i d same h = go xs i h (subst AllPieces (sym same) (all_out ps.items.items ps.fit))
-  where
-    go : (ys : List Piece) (j : ℕ) → j < length ys → AllPieces ys → FitsPage (get_or ys j d)
-    go [] j l all = absurd (omega arith)
-    go (y ∷ ys) zero l (here, rest) = here
-    go (y ∷ ys) (suc j) l (here, rest) = go ys j (omega arith) rest
-
--- the part at i of these n pieces
-abbrev pub part_at : ℕ → List ℕ → ℕ → List Piece → ℕ → Item
-part_at o memory n ps i = part o memory (cond (eqb (i + 1) n) 2 1) (get_or ps i (piece 0 0))
-
--- the parts begin, after i pieces, with that of the piece at i; qs are the pieces by another name
-pub next_own : (o : ℕ) (memory : List ℕ) (n : ℕ) (ps qs : List Piece) (i : ℕ) → ps ≡ qs → n ≡ length qs → i < length ps
-    → drop i (parts o memory qs) ≡ part_at o memory n ps i ∷ drop (i + 1) (parts o memory qs)
-next_own o memory n ps qs i same count h =
-    subst (λ (xs : List Piece). drop i (parts o memory xs) ≡ part_at o memory n ps i ∷ drop (i + 1) (parts o memory xs)) same
-    (subst (λ (k : ℕ). drop i (parts o memory ps) ≡ part_at o memory k ps i ∷ drop (i + 1) (parts o memory ps)) (ap length same ∙ sym count)
-    (next_part o memory ps i (piece 0 0) h))
-
--- one part more of them
-pub taken_part : (o : ℕ) (memory : List ℕ) (n : ℕ) (ps qs : List Piece) (i : ℕ) → ps ≡ qs → n ≡ length qs → i < length ps
-    → take (i + 1) (parts o memory qs) ≡ take i (parts o memory qs) ++ part_at o memory n ps i ∷ []
-taken_part o memory n ps qs i e count h =
-    let x = part_at o memory n ps i in
-    let xs = parts o memory qs in
-    let there : i < length xs = omega (arith, length_parts o memory qs, ap length e) in
-    let same : get_or xs i x ≡ x = ap (λ (ys : List Item). get_or ys 0 x) (sym (drop-cons xs i x there) ∙ next_own o memory n ps qs i e count h) in
-    take_more xs i x there ∙ ap (λ (y : Item). take i xs ++ y ∷ []) same
 
 -- what waits, and what a state's transaction becomes
 pub length_waiting : (s : Spool) → length (waiting s) ≡ array_vec_len s
 length_waiting s = length-map s.items item_of
 
-pub own_is : (s : State) (ps : Pieces) → PiecesOf s ps → parts (s.log.ordinal + 1) s.image.memory ps.items.items ≡ state.own s
-own_is s ps e = ap (λ (xs : List Piece). parts (s.log.ordinal + 1) s.image.memory xs) e
+pub length_own : (s : State) → length (state.own s) ≡ length (cut_runs (declared s.image))
+length_own s = length_parts (s.log.ordinal + 1) s.image.memory (cut_runs (declared s.image))
 
-pub length_of_own : (s : State) (ps : Pieces) → PiecesOf s ps → length (state.own s) ≡ array_vec_len ps.items
-length_of_own s ps e = ap length (sym (own_is s ps e)) ∙ length_parts (s.log.ordinal + 1) s.image.memory ps.items.items
-
-pub length_all : (s : State) (ps : Pieces) → PiecesOf s ps → length (waiting s.spool ++ state.own s) ≡ array_vec_len s.spool + array_vec_len ps.items
-length_all s ps e =
-    omega (arith, length-append (waiting s.spool) (state.own s), length_waiting s.spool, length_of_own s ps e)
+pub length_all : (s : State) → length (waiting s.spool ++ state.own s) ≡ array_vec_len s.spool + length (state.own s)
+length_all s = omega (arith, length-append (waiting s.spool) (state.own s), length_waiting s.spool)

@@ -7,9 +7,9 @@ use Rattle.durability.specs.Items.{Item, recorded}
 use Rattle.image.specs.declared.run.Piece.{Piece}
 use Rattle.image.specs.Cut.{FitsPage}
 use Rattle.transactions.specs.Pages.{Gains}
-use Rattle.transactions.specs.Parts.{part}
+use Rattle.transactions.specs.Parts.{part, parts}
 use Rattle.transactions.specs.Truncation.{in_items}
-use Rattle.transactions.proofs.Appending.{or_none, in_items_append}
+use Rattle.transactions.proofs.Appending.{or_none}
 use Rattle.transactions.proofs.Fitting.{long_part}
 
 -- the record of a piece was noted, if the piece's page was
@@ -39,24 +39,28 @@ pub gains_none : (table : PageTable) → Gains [] table table
 gains_none table =
     record { named = λ p small. sym (or_none (named_in table p)); covered = λ p small. sym (or_none (covered_in table p)) }
 
-or_last : (a b c : Bool) → cond a true (cond b true c) ≡ cond b true (cond c true (cond a true false))
-or_last true true c = refl
-or_last true false true = refl
-or_last true false false = refl
-or_last false b true = refl
-or_last false b false = refl
+or_first : (a b c : Bool) → cond (cond a true b) true c ≡ cond b true (cond a true c)
+or_first true true c = refl
+or_first true false c = refl
+or_first false b c = refl
 
-flags_more : (says : Entry → ℕ → Bool) (xs : List Item) (x : Item) (start before after : ℕ → Bool) → Agree before (λ p. cond (start p) true (in_items says xs p))
-    → Agree after (λ p. cond (says (recorded 0 0 x) p) true (before p)) → Agree after (λ p. cond (start p) true (in_items says (xs ++ x ∷ []) p))
-flags_more says xs x start before after old new p small =
-    new p small
-    ∙ ap (λ (b : Bool). cond (says (recorded 0 0 x) p) true b) (old p small)
-    ∙ or_last (says (recorded 0 0 x) p) (start p) (in_items says xs p)
-    ∙ ap (λ (b : Bool). cond (start p) true b) (sym (in_items_append says xs (x ∷ []) p))
+flags_first : (says : Entry → ℕ → Bool) (x : Item) (xs : List Item) (start first after : ℕ → Bool) → Agree first (λ p. cond (says (recorded 0 0 x) p) true (start p))
+    → Agree after (λ p. cond (first p) true (in_items says xs p)) → Agree after (λ p. cond (start p) true (in_items says (x ∷ xs) p))
+flags_first says x xs start first after new rest p small =
+    rest p small
+    ∙ ap (λ (b : Bool). cond b true (in_items says xs p)) (new p small)
+    ∙ or_first (says (recorded 0 0 x) p) (start p) (in_items says xs p)
 
-pub gains_more : (xs : List Item) (x : Item) (start before after : PageTable) → Gains xs start before → Noted (recorded 0 0 x) before after → Gains (xs ++ x ∷ []) start after
-gains_more xs x start before after old new =
+pub gains_first : (x : Item) (xs : List Item) (start first after : PageTable) → Noted (recorded 0 0 x) start first → Gains xs first after → Gains (x ∷ xs) start after
+gains_first x xs start first after new rest =
     record {
-      named = flags_more names xs x (named_in start) (named_in before) (named_in after) old.named new.named;
-      covered = flags_more covers xs x (covered_in start) (covered_in before) (covered_in after) old.covered new.covered;
+      named = flags_first names x xs (named_in start) (named_in first) (named_in after) new.named rest.named;
+      covered = flags_first covers x xs (covered_in start) (covered_in first) (covered_in after) new.covered rest.covered;
     }
+
+-- one piece of many, by whose part the others follow
+pub noted_next : (o : ℕ) (m : List ℕ) (p : Piece) (ps : List Piece) (start first after : PageTable) → length m ≡ 6144 → FitsPage p
+    → Told (p.start / 96) (eqb p.size 96) start first → Gains (parts o m ps) first after → Gains (parts o m (p ∷ ps)) start after
+noted_next o m p [] start first after whole fit told rest = gains_first (part o m 2 p) [] start first after (noted_part o m true p start first whole fit told) rest
+noted_next o m p (q ∷ ps) start first after whole fit told rest =
+    gains_first (part o m 1 p) (parts o m (q ∷ ps)) start first after (noted_part o m false p start first whole fit told) rest

@@ -10,21 +10,20 @@ use Rattle.device.specs.Meaning.{Answer, Barrier}
 use Rattle.device.specs.Trace.{Act, settled, Done, Tries}
 use Rattle.device.proofs.Plans.{work_begins, plan_cut, tries_after, barrier_tried, done_plate}
 use Rattle.durability.specs.Items.{Item, appending}
-use Rattle.image.specs.declared.runs.Pieces.{Pieces}
 use Rattle.image.proofs.Cutting.{runs_none}
 use Rattle.image.proofs.Facts.{apart_out}
 use Rattle.image.specs.Calls.{declared}
+use Rattle.image.specs.Cut.{cut_runs}
 use Rattle.transactions.specs.declared.fault.StoreFault.{StoreFault}
 use Rattle.transactions.specs.declared.fault.StoreFault.TheVariants.{Device}
 use Rattle.transactions.specs.declared.state.State.{State}
 use Rattle.transactions.specs.Calls.{writing, CutWriting}
-use Rattle.transactions.specs.Parts.{parts, waiting}
+use Rattle.transactions.specs.Parts.{waiting}
 use Rattle.transactions.specs.Rows.{Row, first_fit, off, serials, full, spool_full, commit_rows}
 use Rattle.transactions.specs.State as state
 use Rattle.transactions.specs.State.{live, OnLog}
-use Rattle.transactions.specs.Steps.{PiecesOf}
 use Rattle.transactions.specs.Truncation.{page_item}
-use Rattle.transactions.proofs.Loops.{own_is, length_waiting, length_of_own, written_as}
+use Rattle.transactions.proofs.Loops.{length_waiting, length_own, written_as}
 
 -- a log with its homes lies on the device
 pub on_device : (s : State) (d : Disk) → OnLog s d → s.log.places ≤ d.plate.sectors
@@ -45,20 +44,19 @@ appending_two n low last (x ∷ xs) ys zs =
 abbrev pub spool_plan : State → List Act
 spool_plan s = appending s.log.places s.log.low s.log.last (waiting s.spool)
 
-abbrev pub pieces_after : State → Pieces → ℕ → List Act
-pieces_after s ps last = appending s.log.places s.log.low last (parts (s.log.ordinal + 1) s.image.memory ps.items.items)
+abbrev pub pieces_after : State → ℕ → List Act
+pieces_after s last = appending s.log.places s.log.low last (state.own s)
 
 abbrev pub pages_after : State → ℕ → List ℕ → List Act
 pages_after s last ps = appending s.log.places s.log.low last (map (page_item s.log.ordinal s.image.memory) ps)
 
-abbrev pub piece_plan : State → Pieces → List Act
-piece_plan s ps = pieces_after s ps (s.log.last + array_vec_len s.spool)
+abbrev pub piece_plan : State → List Act
+piece_plan s = pieces_after s (s.log.last + array_vec_len s.spool)
 
-pub commit_plan : (s : State) (ps : Pieces) → PiecesOf s ps → writing s (waiting s.spool ++ state.own s) ≡ spool_plan s ++ (piece_plan s ps ++ (settled ∷ []))
-commit_plan s ps e =
+pub commit_plan : (s : State) → writing s (waiting s.spool ++ state.own s) ≡ spool_plan s ++ (piece_plan s ++ (settled ∷ []))
+commit_plan s =
     appending_two s.log.places s.log.low s.log.last (waiting s.spool) (state.own s) (settled ∷ [])
     ∙ ap (λ (k : ℕ). spool_plan s ++ (appending s.log.places s.log.low (s.log.last + k) (state.own s) ++ (settled ∷ []))) (length_waiting s.spool)
-    ∙ ap (λ (xs : List Item). spool_plan s ++ (appending s.log.places s.log.low (s.log.last + array_vec_len s.spool) xs ++ (settled ∷ []))) (sym (own_is s ps e))
 
 -- power failed in the first part of a plan
 pub cut_first : (d e : Disk) (first rest : List Act) (f : DeviceFault) → Tries d first (Err f) e → Tries d (first ++ rest) (Err f) e
@@ -96,22 +94,15 @@ writing_cut s s' d e items (Misaddressed x o) h same off = absurd h
 writing_cut s s' d e items Unfit h same off = absurd h
 writing_cut s s' d e items (Spoiled x o) h same off = absurd h
 
--- something declared is at least one piece
-pub some_pieces : (s : State) (ps : Pieces) → PiecesOf s ps → declared s.image ≢ [] → 1 ≤ array_vec_len ps.items
-some_pieces s ps e some =
+-- something declared is at least one record
+pub some_records : (s : State) (k : ℕ) → k ≡ length (state.own s) → declared s.image ≢ [] → 1 ≤ k
+some_records s k e some =
     ⊎_elim
-    (λ (h : length ps.items.items < 1).
-    let none = nil_from_length ps.items.items (omega arith) in
-    absurd (some (runs_none (declared s.image) (apart_out 0 (declared s.image) s.image.runs.apart) (sym e ∙ none))))
+    (λ (h : k < 1).
+    let none = nil_from_length (cut_runs (declared s.image)) (omega (arith, length_own s)) in
+    absurd (some (runs_none (declared s.image) (apart_out 0 (declared s.image) s.image.runs.apart) none)))
     (λ h. h)
-    (cases_lt (length ps.items.items) 1)
-
--- the tests of a commit, by the records that the transaction becomes
-pub passes_own : (s : State) (ps : Pieces) (flush : Bool) → PiecesOf s ps → first_fit (commit_rows s (array_vec_len ps.items) flush) ≡ None → first_fit (commit_rows s (length (state.own s)) flush) ≡ None
-passes_own s ps flush e h = subst (λ (k : ℕ). first_fit (commit_rows s k flush) ≡ None) (sym (length_of_own s ps e)) h
-
-pub refused_own : (s : State) (ps : Pieces) (flush : Bool) (f : StoreFault) → PiecesOf s ps → first_fit (commit_rows s (array_vec_len ps.items) flush) ≡ Some f → first_fit (commit_rows s (length (state.own s)) flush) ≡ Some f
-refused_own s ps flush f e h = subst (λ (k : ℕ). first_fit (commit_rows s k flush) ≡ Some f) (sym (length_of_own s ps e)) h
+    (cases_lt k 1)
 
 -- a call that is past its first test is one of a store that is on
 pub on_past : (s : State) (rest : List Row) → first_fit (off s ∷ rest) ≡ None → s.on ≡ true

@@ -1,8 +1,6 @@
 -- What the inner steps of the calls do.
 use Rattle.std.specs.Prelude.{◌≡◌, ℕ, Bool, false, ◌⊎◌, Some, None, Ok, Err, Option, Result}
-use Rattle.image.specs.declared.runs.Pieces.{Pieces}
-use Rattle.image.specs.Calls.{declared, Kept}
-use Rattle.image.specs.Cut.{cut_runs}
+use Rattle.image.specs.Calls.{Kept}
 use Rattle.transactions.specs.declared.fault.StoreFault.{StoreFault}
 use Rattle.transactions.specs.declared.state.State.{State}
 use Rattle.device.specs.Disk.{Disk}
@@ -12,10 +10,6 @@ use Rattle.transactions.specs.Calls.{CommitsParts, CommitRefused, CommitCut}
 abbrev pub Passes : Option StoreFault → Result (Unit {0}) StoreFault → Type 0
 Passes fit (Ok _) = fit ≡ None
 Passes fit (Err f) = fit ≡ Some f
-
--- These are the pieces of what is declared.
-abbrev pub PiecesOf : State → Pieces → Type 0
-PiecesOf s ps = ps.items.items ≡ cut_runs (declared s.image)
 
 -- The transaction is over and its bytes stay.
 pub record Over (s s' : State) : Type 0 where

@@ -1,23 +1,26 @@
 // The changes of a store's state, apart from the device.
-ghost use Rattle.std.specs.Prelude.{◌≡◌, ℕ, ◌+◌, ◌^◌, ◌<◌, ◌≤◌, true, List, ◌++◌, length};
+ghost use Rattle.std.specs.Prelude.{◌≡◌, ℕ, ◌+◌, ◌^◌, ◌<◌, ◌≤◌, true, ◌++◌, length};
 ghost use Rattle.arrayvec.specs.ArrayVec.{array_vec_len};
+ghost use Rattle.image.specs.Calls.{declared};
+ghost use Rattle.image.specs.Cut.{cut_runs};
 ghost use Rattle.transactions.specs.Calls.{Undone, Written, SpooledUp};
 ghost use Rattle.transactions.specs.Pages.{Gains};
 ghost use Rattle.transactions.specs.Parts.{parts};
 ghost use Rattle.transactions.specs.State.{spooled, own};
-ghost use Rattle.transactions.specs.Steps.{Over, PiecesOf};
+ghost use Rattle.transactions.specs.Steps.{Over};
 ghost use Rattle.transactions.specs.Truncation.{Truncated};
 
 use crate::spooling::take_in;
 use crate::state::State;
-use image::{PAGE, Pieces};
+use image::{Image, PAGE};
 use journal::PageTable;
 
-// Notes what the records of these pieces say of their pages.
-fn note_pieces(table: &mut PageTable, pieces: &Pieces)
-    ensures { (ordinal : ℕ) (memory : List ℕ) → length memory ≡ 6144 → Gains (parts ordinal memory pieces.now.items.items) table.old table.new }
+// Notes what the records of all that is declared say of their pages.
+fn note_pieces(table: &mut PageTable, image: &Image)
+    ensures { (ordinal : ℕ) → Gains (parts ordinal image.now.memory (cut_runs (declared image.now))) table.old table.new }
 {
-    for piece in pieces.items.iter() {
+    let mut pieces = image.pieces();
+    while let Some(piece) = pieces.next() {
         table.note(piece.page(), piece.size == PAGE);
     }
 }
@@ -60,19 +63,18 @@ impl State {
     }
 
     // All that waited and the transaction's records are written: it is over, and its bytes stay.
-    pub(crate) fn committed(&mut self, pieces: &Pieces) -> (u64, usize)
-        requires bounded { self.old.log.last + array_vec_len self.old.spool + array_vec_len pieces.now.items < 2 ^ 63 }
-        requires some { 1 ≤ array_vec_len pieces.now.items }
-        requires pieces { PiecesOf self.old pieces.now }
+    pub(crate) fn committed(&mut self, records: usize) -> (u64, usize)
+        requires bounded { self.old.log.last + array_vec_len self.old.spool + records < 2 ^ 63 }
+        requires some { 1 ≤ records }
+        requires own { records ≡ length (own self.old) }
         ensures answer { result ≡ (self.old.log.ordinal + 1, length (own self.old)) }
         ensures written { Written self.old (spooled self.old ++ own self.old) (self.old.log.ordinal + 1) self.new }
         ensures over { Over self.old self.new }
         ensures pages { Gains (own self.old) self.old.pages self.new.pages }
     {
-        let records = pieces.items.len();
         self.log.last = self.written_to() + records as u64;
         self.spool.clear();
-        note_pieces(&mut self.pages, pieces);
+        note_pieces(&mut self.pages, &self.image);
         self.log.ordinal += 1;
         self.image.keep();
         self.busy = false;
@@ -81,11 +83,11 @@ impl State {
     }
 
     // The transaction's records wait: it is over, and its bytes stay.
-    pub(crate) fn spooled_up(&mut self, pieces: &Pieces) -> (u64, usize)
-        requires room { array_vec_len self.old.spool + array_vec_len pieces.now.items ≤ 32 }
-        requires bounded { self.old.log.last + array_vec_len self.old.spool + array_vec_len pieces.now.items < 2 ^ 63 }
-        requires some { 1 ≤ array_vec_len pieces.now.items }
-        requires pieces { PiecesOf self.old pieces.now }
+    pub(crate) fn spooled_up(&mut self, records: usize) -> (u64, usize)
+        requires room { array_vec_len self.old.spool + records ≤ 32 }
+        requires bounded { self.old.log.last + array_vec_len self.old.spool + records < 2 ^ 63 }
+        requires some { 1 ≤ records }
+        requires own { records ≡ length (own self.old) }
         requires on { self.old.on ≡ true }
         ensures answer { result ≡ (self.old.log.ordinal + 1, length (own self.old)) }
         ensures spooled { SpooledUp self.old (own self.old) (self.old.log.ordinal + 1) self.new }
@@ -93,11 +95,11 @@ impl State {
         ensures pages { Gains (own self.old) self.old.pages self.new.pages }
     {
         let ordinal = self.log.ordinal + 1;
-        take_in(&mut self.spool, ordinal, &self.image.memory, pieces);
-        note_pieces(&mut self.pages, pieces);
+        take_in(&mut self.spool, ordinal, &self.image);
+        note_pieces(&mut self.pages, &self.image);
         self.log.ordinal = ordinal;
         self.image.keep();
         self.busy = false;
-        (ordinal, pieces.items.len())
+        (ordinal, records)
     }
 }

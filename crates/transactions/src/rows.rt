@@ -9,7 +9,6 @@ use crate::fault::StoreFault;
 use crate::spool::SPOOL;
 use crate::state::State;
 use device::DeviceFault;
-use image::Pieces;
 use record::{PAGES, SERIALS};
 
 // The greatest serial.
@@ -74,11 +73,12 @@ impl State {
         Ok(())
     }
 
-    // There are serials, log and, where they are not written, spool for a record of each of these pieces.
-    pub(crate) fn may_commit(&self, pieces: &Pieces, flush: bool) -> Result<(), StoreFault>
-        ensures { Passes (first_fit (commit_rows self.now (array_vec_len pieces.now.items) flush)) result }
+    // There are serials, log and, where they are not written, spool for so many records.
+    pub(crate) fn may_commit(&self, records: usize, flush: bool) -> Result<(), StoreFault>
+        requires { records ≤ 79 }
+        ensures { Passes (first_fit (commit_rows self.now records flush)) result }
     {
-        let waiting = self.spool.len() + pieces.items.len();
+        let waiting = self.spool.len() + records;
         if self.log.last + waiting as u64 + RESERVE as u64 > MOST {
             return Err(StoreFault::Serials(self.log.last));
         }

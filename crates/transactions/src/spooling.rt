@@ -1,21 +1,24 @@
 // Adding to the spool.
-ghost use Rattle.std.specs.Prelude.{◌≡◌, ◌+◌, ◌≤◌, ◌++◌, take, drop, if◌then◌else◌};
+ghost use Rattle.std.specs.Prelude.{◌≡◌, ◌+◌, ◌≤◌, ◌++◌, length, take, drop, if◌then◌else◌};
 ghost use Rattle.arrayvec.specs.ArrayVec.{array_vec_len};
-ghost use Rattle.image.specs.Cut.{FitsPage};
+ghost use Rattle.image.specs.Calls.{declared};
+ghost use Rattle.image.specs.Cut.{FitsPage, cut_runs};
 ghost use Rattle.transactions.specs.Parts.{part, parts, item_of, waiting};
 
 use crate::spool::{Spool, Spooled};
 use arrayvec::ArrayVec;
-use image::{MEMORY, PAGE, Piece, Pieces};
+use image::{Image, MEMORY, PAGE, Piece};
 
-// The parts of a transaction join what waits, in their order.
-pub(crate) fn take_in(spool: &mut Spool, ordinal: u64, memory: &[u8; MEMORY], pieces: &Pieces)
-    requires room { array_vec_len spool.old + array_vec_len pieces.now.items ≤ 32 }
-    ensures count { array_vec_len spool.new ≡ array_vec_len spool.old + array_vec_len pieces.now.items }
-    ensures waits { waiting spool.new ≡ waiting spool.old ++ parts ordinal memory.now pieces.now.items.items }
+// The parts of what is declared join what waits, in their order.
+pub(crate) fn take_in(spool: &mut Spool, ordinal: u64, image: &Image)
+    requires room { array_vec_len spool.old + length (cut_runs (declared image.now)) ≤ 32 }
+    ensures count { array_vec_len spool.new ≡ array_vec_len spool.old + length (cut_runs (declared image.now)) }
+    ensures waits { waiting spool.new ≡ waiting spool.old ++ parts ordinal image.now.memory (cut_runs (declared image.now)) }
 {
-    for (i, piece) in pieces.items.iter().enumerate() {
-        spool.push(spooled(ordinal, memory, piece, i + 1 == pieces.items.len()));
+    let mut pieces = image.pieces();
+    while let Some(piece) = pieces.next() {
+        let last = pieces.is_empty();
+        spool.push(spooled(ordinal, &image.memory, &piece, last));
     }
 }
 

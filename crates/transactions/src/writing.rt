@@ -1,18 +1,19 @@
 // Writing records at the end of the log. A part that waits and a piece of the memory have their bytes in different
 // places, and share what makes a head and writes a record; one function for both would be no plainer. That the log
 // lies on the device is asked, as in the calls.
-ghost use Rattle.std.specs.Prelude.{◌+◌, ◌%◌, ◌^◌, ◌<◌, ◌≤◌, [], ◌∷◌, if◌then◌else◌};
+ghost use Rattle.std.specs.Prelude.{◌+◌, ◌%◌, ◌^◌, ◌<◌, ◌≤◌, [], ◌∷◌, length, if◌then◌else◌};
 ghost use Rattle.arrayvec.specs.ArrayVec.{array_vec_len};
 ghost use Rattle.device.specs.Trace.{Tries, wrote};
 ghost use Rattle.durability.specs.Items.{appending, recorded};
-ghost use Rattle.image.specs.Cut.{FitsPage};
+ghost use Rattle.image.specs.Calls.{declared};
+ghost use Rattle.image.specs.Cut.{FitsPage, cut_runs};
 ghost use Rattle.record.specs.Entry.{laid_out};
 ghost use Rattle.transactions.specs.Parts.{part, parts, item_of, waiting};
 
 use crate::log::Log;
 use crate::spool::{Spool, Spooled};
 use device::{Device, DeviceFault};
-use image::{MEMORY, Piece, Pieces};
+use image::{Image, MEMORY, Piece};
 use record::Record;
 use recovery::write_record;
 
@@ -76,29 +77,24 @@ fn write_piece<D: Device>(
     write_record(device, log.places, &record)
 }
 
-// Writes the pieces of a transaction that declared them, each with the next serial after `last`.
+// Writes the pieces of what is declared, each with the next serial after `last`.
 pub(crate) fn write_pieces<D: Device>(
     device: &mut D,
     log: &Log,
     last: u64,
-    memory: &[u8; MEMORY],
-    pieces: &Pieces,
+    image: &Image,
 ) -> Result<(), DeviceFault>
-    requires bounded { last + array_vec_len pieces.now.items < 2 ^ 63 }
+    requires bounded { last + length (cut_runs (declared image.now)) < 2 ^ 63 }
     requires numbered { log.now.ordinal < 2 ^ 63 }
     requires room { log.now.places ≤ (D.Device.disk device.old).plate.sectors }
-    ensures { Tries (D.Device.disk device.old) (appending log.now.places log.now.low last (parts (log.now.ordinal + 1) memory.now pieces.now.items.items)) result (D.Device.disk device.new) }
+    ensures { Tries (D.Device.disk device.old) (appending log.now.places log.now.low last (parts (log.now.ordinal + 1) image.now.memory (cut_runs (declared image.now)))) result (D.Device.disk device.new) }
 {
-    for (i, piece) in pieces.items.iter().enumerate() {
-        let serial = last + 1 + i as u64;
-        write_piece(
-            device,
-            log,
-            serial,
-            memory,
-            piece,
-            i + 1 == pieces.items.len(),
-        )?;
+    let mut serial = last;
+    let mut pieces = image.pieces();
+    while let Some(piece) = pieces.next() {
+        serial += 1;
+        let last_one = pieces.is_empty();
+        write_piece(device, log, serial, &image.memory, &piece, last_one)?;
     }
     Ok(())
 }

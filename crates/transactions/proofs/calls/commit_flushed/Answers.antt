@@ -1,11 +1,10 @@
 -- The records are written, and the state says so.
-use Rattle.std.proofs.Common.{◌+◌, true, ◌++◌, sym, refl, arith}
+use Rattle.std.proofs.Common.{◌≡◌, ℕ, ◌+◌, true, ◌++◌, None, refl, subst, arith}
 use Rattle.std.proofs.lemmas.Result.{err_from_is_err_and}
 use Rattle.transactions.specs.Calls.{Written}
 use Rattle.transactions.specs.State.{spooled, own}
-use Rattle.arrayvec.specs.ArrayVec.{array_vec_len}
-use Rattle.transactions.proofs.Plans.{roomy, writing_cut, some_pieces, passes_own}
-use Rattle.transactions.proofs.Loops.{length_of_own}
+use Rattle.transactions.specs.Rows.{first_fit, commit_rows}
+use Rattle.transactions.proofs.Plans.{roomy, writing_cut, some_records}
 use Rattle.transactions.proofs.Tabling.{off_stands, fitted, committed_stands}
 use Rattle.transactions.proofs.calls.commit_flushed.Goals as goal
 
@@ -17,7 +16,7 @@ returns-in_err-commit_out g c =
     record {
       answer = record {
         some = c.requires.some;
-        passes = passes_own s c.args.pieces.now true c.requires.pieces c.requires.passes;
+        passes = subst (λ (k : ℕ). first_fit (commit_rows s k true) ≡ None) c.requires.own c.requires.passes;
         flushing = refl;
         cut = writing_cut s _ (g.D.Device.disk c.args.device.now) (g.D.Device.disk c.commit_out.new.device) (spooled s ++ own s) c.in_err-commit_out.field-0.0 c.in_err-commit_out.ensures refl refl;
       };
@@ -27,17 +26,15 @@ returns-in_err-commit_out g c =
 pub committed-requires : goal.committed-requires
 committed-requires g c =
     let s = c.args.state.now in
-    let ps = c.args.pieces.now in
     record {
-      bounded = omega (arith, (roomy s (array_vec_len ps.items) true c.requires.passes).serials);
-      some = some_pieces s ps c.requires.pieces c.requires.some;
-      pieces = c.requires.pieces;
+      bounded = omega (arith, (roomy s c.args.records true c.requires.passes).serials);
+      some = some_records s c.args.records c.requires.own c.requires.some;
+      own = c.requires.own;
     }
 
 pub returns : goal.returns
 returns g c =
     let s = c.args.state.now in
-    let ps = c.args.pieces.now in
     let d = g.D.Device.disk c.args.device.now in
     let e = g.D.Device.disk c.commit_out.new.device in
     let done = c.committed.ensures in
@@ -50,12 +47,12 @@ returns g c =
       empty = done.written.empty;
       on = done.written.on;
     } in
-    let fit = fitted s (array_vec_len ps.items) true (sym (length_of_own s ps c.requires.pieces)) (some_pieces s ps c.requires.pieces c.requires.some)
-    (roomy s (array_vec_len ps.items) true c.requires.passes) in
+    let k = c.args.records in
+    let fit = fitted s k true c.requires.own (some_records s k c.requires.own c.requires.some) (roomy s k true c.requires.passes) in
     record {
       answer = record {
         some = c.requires.some;
-        passes = passes_own s ps true c.requires.pieces c.requires.passes;
+        passes = subst (λ (k : ℕ). first_fit (commit_rows s k true) ≡ None) c.requires.own c.requires.passes;
         answer = done.answer;
         enters = (c.in_ok-commit_out.ensures, written);
         image = record { memory = image.memory; before = image.before; clean = image.clean };
