@@ -363,23 +363,33 @@ step (format (Err g)) m done cut m' (Some xs) st happens = (tt, tt)
 step (opening (Ok x)) (closed d) done cut (working k) (Some xs) st (o, _) = opened_step st.places st.count xs st.counts d k st.safe x o
 step (opening (Err f)) (closed d) done cut (working k) (Some xs) st (o, t) = refused_step st.places st.count xs st.counts d k st.safe done cut f o t
 step close (working h) done cut (closed e) (Some xs) st (same, none) = (tt, close_step st.places st.count xs st.counts h e done cut st.sound same none)
-step (begin r) (working h) done cut (working k) (Some xs) st (does, none) =
-    (tt, silent_step st.places st.count xs st.counts h k st.sound done cut none
-    (steps.begin_keeps st.places h.state k.state h.disk k.disk (past st.count xs) st.sound does.1 r does.0))
-step (set_range number start size r) (working h) done cut (working k) (Some xs) st (does, none) =
-    (tt, silent_step st.places st.count xs st.counts h k st.sound done cut none
-    (steps.set_range_keeps st.places h.state k.state h.disk k.disk (past st.count xs) st.sound does.1 number start size r does.0))
-step (write number start bytes r) (working h) done cut (working k) (Some xs) st (does, none) =
-    (tt, silent_step st.places st.count xs st.counts h k st.sound done cut none
-    (steps.write_keeps st.places h.state k.state h.disk k.disk (past st.count xs) st.sound does.1 number start bytes r does.0))
-step (read start buffer r filled) (working h) done cut (working k) (Some xs) st (_, same, none) =
-    (tt, silent_step st.places st.count xs st.counts h k st.sound done cut none
-    (subst (λ (x : Held). Sound st.places x.state x.disk (past st.count xs)) (sym same) st.sound))
+step (begin r) (working h) done cut (working k) (Some xs) st (does, none) = (
+  tt,
+  silent_step st.places st.count xs st.counts h k st.sound done cut none
+      (steps.begin_keeps st.places h.state k.state h.disk k.disk (past st.count xs) st.sound does.1 r does.0),
+)
+step (set_range number start size r) (working h) done cut (working k) (Some xs) st (does, none) = (
+  tt,
+  silent_step st.places st.count xs st.counts h k st.sound done cut none
+      (steps.set_range_keeps st.places h.state k.state h.disk k.disk (past st.count xs) st.sound does.1 number start size r does.0),
+)
+step (write number start bytes r) (working h) done cut (working k) (Some xs) st (does, none) = (
+  tt,
+  silent_step st.places st.count xs st.counts h k st.sound done cut none
+      (steps.write_keeps st.places h.state k.state h.disk k.disk (past st.count xs) st.sound does.1 number start bytes r does.0),
+)
+step (read start buffer r filled) (working h) done cut (working k) (Some xs) st (_, same, none) = (
+  tt,
+  silent_step st.places st.count xs st.counts h k st.sound done cut none
+      (subst (λ (x : Held). Sound st.places x.state x.disk (past st.count xs)) (sym same) st.sound),
+)
 step (commit number flushed r) (working h) done cut (working k) (Some xs) st (does, t) =
     commit_step st.places st.count xs st.counts h k st.sound done number flushed r cut does t
-step (abort number r) (working h) done cut (working k) (Some xs) st (does, none) =
-    (tt, silent_step st.places st.count xs st.counts h k st.sound done cut none
-    (steps.abort_keeps st.places h.state k.state h.disk k.disk (past st.count xs) st.sound does.1 number r does.0))
+step (abort number r) (working h) done cut (working k) (Some xs) st (does, none) = (
+  tt,
+  silent_step st.places st.count xs st.counts h k st.sound done cut none
+      (steps.abort_keeps st.places h.state k.state h.disk k.disk (past st.count xs) st.sound does.1 number r does.0),
+)
 step (flush r) (working h) done cut (working k) (Some xs) st (does, t) = flush_step st.places st.count xs st.counts h k st.sound done r cut does t
 step (truncate r) (working h) done cut (working k) (Some xs) st (does, t) = truncate_step st.places st.count xs st.counts h k st.sound done r cut does t
 step (format (Ok u)) m done cut m' h st happens = absurd happens

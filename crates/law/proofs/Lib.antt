@@ -16,3 +16,5 @@ pub mod Settling
 pub mod Counting
 pub mod Lawful
 pub mod Tracing
+pub mod Playing
+pub mod Working
