@@ -38,9 +38,12 @@ put_in_disk : (number : ℕ) (xs : List Edit) (h k : Held) → PutIn number xs h
 put_in_disk number [] h k same = ap (λ (x : Held). x.disk) same
 put_in_disk number (x ∷ xs) h k (set, put, sets, writes, rest) = put_in_disk number xs put k rest ∙ writes.1 ∙ sets.1
 
+pub prepared_disk : (h k : Held) (xs : List Edit) (flush : Bool) (r : Result (ℕ × ℕ) StoreFault) (x : Changes h xs flush r k) → x.prepared.disk ≡ h.disk
+prepared_disk h k xs flush r x = put_in_disk x.token.number xs x.begun x.prepared x.puts ∙ x.begins.1
+
 pub committed : (h k : Held) (xs : List Edit) (flush : Bool) (r : Result (ℕ × ℕ) StoreFault) → Changes h xs flush r k → Committed h.state h.disk xs flush r k.state k.disk
 committed h k xs flush r x =
-    let here = put_in_disk x.token.number xs x.begun x.prepared x.puts ∙ x.begins.1 in (
+    let here = prepared_disk h k xs flush r x in (
       x.prepared.state,
       x.prepares,
       subst (λ (n : ℕ). Commits x.prepared.state h.disk n flush r k.state k.disk) x.begins.0.1

@@ -1,135 +1,193 @@
--- Each change takes one book to the next, and what a ledger's call did is an event of its run.
-use Rattle.std.proofs.Common.{◌≡◌, ℕ, ◌+◌, Bool, true, [], length, Some, None, Ok, Err, Option, Result, sym, refl, ap, ◌∙◌, subst, inl, inr}
+-- A change that is made keeps what stands.
+use Rattle.std.proofs.Common.{◌≡◌, ℕ, ◌+◌, ◌-◌, Bool, true, false, cond, not, ◌&&◌, ◌≢◌, ◌⊎◌, List, [], ◌∷◌, ◌++◌, map, length, Some, None, Ok, Err, Option, Result, sym, refl, ap, ◌∙◌, subst, inl, inr, arith, sum}
 use mathlib.Core.Path.{fun_ext}
-use mathlib.Core.Logic.{∥∥₁_map}
-use Rattle.device.specs.Disk.{Disk}
-use Rattle.image.specs.Calls.{declared}
+use Rattle.std.proofs.lemmas.Bool.{both_ways, and_from, and_left, and_right}
+use Rattle.device.specs.Disk.{Disk, Plate}
+use Rattle.image.specs.declared.run.Run.{Run}
+use Rattle.image.specs.declared.state.Image.{Image}
+use Rattle.image.specs.Calls.{declared, none}
 use Rattle.transactions.specs.declared.fault.StoreFault.{StoreFault}
 use Rattle.transactions.specs.declared.log.Log.{Log}
 use Rattle.transactions.specs.declared.state.State.{State}
-use Rattle.transactions.specs.Calls.{Commits}
-use Rattle.law.specs.declared.script.Deed.TheVariants.{Commit}
-use Rattle.law.specs.Events as below
-use Rattle.law.proofs.Tracing.{stepped_first}
-use Rattle.book.specs.declared.fault.LedgerFault.{LedgerFault}
+use Rattle.transactions.specs.Held as held
+use Rattle.transactions.specs.Rows.{first_fit, token_rows, commit_rows}
+use Rattle.transactions.specs.State.{own}
+use Rattle.law.specs.Transactions.{Transaction, made_of}
+use Rattle.law.specs.Kept.{Entered}
+use Rattle.law.specs.Events as store
+use Rattle.law.specs.Law as law
 use Rattle.book.specs.Layout.{byte_in}
-use Rattle.book.specs.Book.{Book, Holds, new_book}
-use Rattle.book.specs.Rows.{first_fit}
-use Rattle.book.specs.Edits.{after_edits}
-use Rattle.book.proofs.Changes.{issue_holds, move_holds, visit_holds, enrol_holds}
-use Rattle.book.proofs.Unlinking.{drop_holds, collect_holds}
-use Rattle.changes.specs.Changes.{Prepared, Changes}
-use Rattle.ledger.specs.Calls.{HoldsBook, on, power_off, Asleep, Refused, Done, Undone, ChangesBook, OnBook}
-use Rattle.ledger_law.specs.declared.script.Change.{Change}
-use Rattle.ledger_law.specs.declared.script.Change.TheVariants.{Issue, Transfer, Visit, Enrol, DropTag, Collect}
-use Rattle.ledger_law.specs.declared.script.Call.{Call}
-use Rattle.ledger_law.specs.declared.script.Call.TheVariants.{Make}
-use Rattle.ledger_law.specs.declared.script.Told.TheVariants as told
-use Rattle.ledger_law.specs.Events.{Answer, Moment, moment, Still, Changing, Sleeps, Committed, committing, token, rows_of, edits_of, book_after, told_as, told_change, Closed}
-use Rattle.ledger_law.specs.Run.{Stepped}
+use Rattle.book.specs.Book.{Book, Holds}
+use Rattle.book.specs.Edits.{Edit, after_edits}
+use Rattle.changes.specs.Changes.{Changes}
+use Rattle.changes.proofs.Patches.{some_none, token_fits}
+use Rattle.ledger.specs.Sound.{Held, is_on}
+use Rattle.ledger.specs.Calls.{Change, Made}
+use Rattle.ledger.proofs.Standing as ledger
+use Rattle.ledger_law.specs.Below.{changing, Does}
+use Rattle.ledger_law.specs.Events.{working, below}
+use Rattle.ledger_law.specs.Law.{entered_after, newly}
+use Rattle.ledger_law.proofs.Sectors.{tried_plate}
+use Rattle.ledger_law.proofs.Entering.{FirstKept, Grown, AllPlain, all_grow, changing_plain, changing_enters}
+use Rattle.ledger_law.proofs.Memories.{AllInside, inside_append, own_inside, same_own}
+use Rattle.ledger_law.proofs.Books.{Books, books_more}
+use Rattle.ledger_law.proofs.Sums.{Sums}
+use Rattle.ledger_law.proofs.Keeping.{Rests, RestsAt, Keeps, Whole, whole, Stands, none_issued}
 
--- A tag that is enrolled has 8 bytes.
-abbrev pub Proper : Change → Type 0
-Proper (Issue _ _) = Unit {0}
-Proper (Transfer _ _ _) = Unit {0}
-Proper (Visit _ _) = Unit {0}
-Proper (Enrol id _) = length id ≡ 8
-Proper (DropTag _) = Unit {0}
-Proper (Collect _) = Unit {0}
+-- whether a commit enters
 
-pub change_holds : (f : ℕ → ℕ) (c : Change) (b : Book) → Proper c → Holds f b → first_fit (rows_of c b) ≡ None → Holds (after_edits (edits_of c b) f) (book_after c b)
-change_holds f (Issue a amount) b proper h fits = issue_holds f b a amount h fits
-change_holds f (Transfer payer payee amount) b proper h fits = move_holds f b payer payee amount h fits
-change_holds f (Visit id guard) b proper h fits = visit_holds f b id guard h fits
-change_holds f (Enrol id a) b proper h fits = enrol_holds f b id a proper h fits
-change_holds f (DropTag id) b proper h fits = drop_holds f b id h fits
-change_holds f (Collect a) b proper h fits = collect_holds f b a h fits
+some_declared : (rs : List Run) → rs ≢ [] → not (none rs) ≡ true
+some_declared [] some = absurd (some refl)
+some_declared (r ∷ rs) some = refl
 
--- so what was prepared holds the book after the change
-prepared_holds : (s p : State) (c : Change) (b : Book) → Proper c → HoldsBook s b → first_fit (rows_of c b) ≡ None → Prepared s (edits_of c b) p → HoldsBook p (book_after c b)
-prepared_holds s p c b proper h fits x =
-    subst (λ (f : ℕ → ℕ). Holds f (book_after c b)) (sym (fun_ext x.memory)) (change_holds (byte_in s.image.memory) c b proper h fits)
+module _ (s : State) (number : ℕ) (flushed : Bool) where
+  abbrev first : Bool
+  first = store.fits_none (first_fit (token_rows s number))
 
--- and its commit is an event of the store below
-pub committed_by : (c : Change) (flush : Bool) (b : Book) (fit : Bool) (s s' : State) (d e : Disk) (r : Result (ℕ × ℕ) StoreFault) → Proper c → HoldsBook s b → first_fit (rows_of c b) ≡ None
-    → Changes s d (edits_of c b) flush r s' e → (did : Option below.Event) × Committed c flush b (told_change c b r) (moment fit s d) (moment fit s' e) did
-committed_by c flush b fit s s' d e r proper h fits (p, x, commits) =
-    let same : s.log.ordinal + 1 ≡ p.log.ordinal + 1 = ap (λ (l : Log). l.ordinal + 1) (sym x.log) in
-    let commits' = subst (λ (k : ℕ). Commits p d k flush r s' e) same commits in
-    let stepped = stepped_first (Commit flush) p s' d e (Some (token (p.log.ordinal + 1))) None None (below.told_commit r) (refl, (r, refl, commits')) in (
-      Some (committing p d flush r s' e stepped.0),
-      record {
-        fits = fits;
-        prepared = p;
-        prepares = x;
-        holds = prepared_holds s p c b proper h fits x;
-        result = r;
-        made = stepped.0;
-        is = refl;
-        happens = stepped.1;
-        answers = refl;
-        fit = refl;
-      },
+  abbrev second : Bool
+  second = not (none (declared s.image))
+
+  abbrev third : Bool
+  third = store.fits_none (first_fit (commit_rows s (length (own s)) flushed))
+
+  pub passing : first_fit (token_rows s number) ≡ None → declared s.image ≢ [] → first_fit (commit_rows s (length (own s)) flushed) ≡ None → store.does_enter s number flushed ≡ true
+  passing fits some c = and_from (first && second) third (and_from first second (ap store.fits_none fits) (some_declared (declared s.image) some)) (ap store.fits_none c)
+
+  clean_passes : declared s.image ≡ [] → store.does_enter s number flushed ≡ false
+  clean_passes clean = and_left (first && second) third (and_right first second (ap (λ (rs : List Run). not (none rs)) clean))
+
+  refused_passes : (f : StoreFault) → first_fit (commit_rows s (length (own s)) flushed) ≡ Some f → store.does_enter s number flushed ≡ false
+  refused_passes f fits = and_right (first && second) third (ap store.fits_none fits)
+
+-- The memory of a ledger is that of this store, and nothing is declared.
+pub record Same (k : Held) (p : held.Held) : Type 0 where
+  pub memory : k.store.state.image.memory ≡ p.state.image.memory
+  pub clean : declared k.store.state.image ≡ []
+
+-- What a commit leaves: it entered, and the memory is that at the commit, or it did not, and the memory is that before.
+abbrev pub Leaving : Bool → Held → held.Held → held.Held → Type 0
+Leaving enters k p h = ((enters ≡ true) × (is_on k ≡ true → Same k p)) ⊎ ((enters ≡ false) × (is_on k ≡ true → Same k h))
+
+leaving : (h : held.Held) (k : Held) (xs : List Edit) (flushed : Bool) (x : Result (ℕ × ℕ) StoreFault) (c : Changes h xs flushed x k.store) → declared h.state.image ≡ []
+    → held.Commits c.token.number flushed c.prepared x k.store → Leaving (store.does_enter c.prepared.state c.token.number flushed) k c.prepared h
+leaving h k xs flushed (Ok x) c clean (fits, inl n) =
+    inr (
+      clean_passes c.prepared.state c.token.number flushed n.clean,
+      λ on.
+          record {
+            memory =
+                ap (λ (y : Image). y.memory) n.state.image_is ∙ sym (ledger.unchanged c.prepared.state.image n.clean)
+                ∙ c.prepares.before ∙ ledger.unchanged h.state.image clean;
+            clean = ap (λ (y : Image). declared y) n.state.image_is ∙ n.clean;
+          },
     )
+leaving h k xs flushed (Ok x) c clean (fits, inr parts) =
+    inl (passing c.prepared.state c.token.number flushed fits parts.some parts.passes, λ on. record { memory = parts.image.memory; clean = parts.image.clean })
+leaving h k xs flushed (Err f) c clean (inl (fits, same, device)) =
+    absurd (some_none (first_fit (token_rows c.prepared.state c.token.number)) f
+    (token_fits c.prepared.state c.token.number
+    (record { on = c.prepares.on; busy = c.prepares.busy; fits = c.begins.0.1 ∙ sym (ap (λ (l : Log). l.ordinal + 1) c.prepares.log) }))
+    fits)
+leaving h k xs flushed (Err f) c clean (inr (fits, inl refused)) =
+    inr (
+      refused_passes c.prepared.state c.token.number flushed f refused.refused,
+      λ on. record { memory = refused.state.0.memory ∙ c.prepares.before ∙ ledger.unchanged h.state.image clean; clean = refused.state.0.clean },
+    )
+leaving h k xs flushed (Err f) c clean (inr (fits, inr cut)) =
+    inl (passing c.prepared.state c.token.number flushed fits cut.some cut.passes, λ on. absurd (both_ways k.store.state.on cut.cut.off (ledger.is_on k.fit k.store.state on)))
 
--- what a change answers
-abbrev pub told_ordinal : Result ℕ LedgerFault → Answer
-told_ordinal (Ok o) = Ok (told.Changed o)
-told_ordinal (Err f) = Err f
+append_none : {X : Type 0} (xs : List X) → xs ++ [] ≡ xs
+append_none [] = refl
+append_none (x ∷ xs) = ap (λ ys. x ∷ ys) (append_none xs)
 
--- A call that a ledger that is off answers is a step of a run.
-pub asleep_stepped : {A : Type 0} (call : Call) (told : Result A LedgerFault → Answer) (fit : Bool) (s s' : State) (d e : Disk) (r : Result A LedgerFault)
-    → (told (Err power_off) ≡ Err power_off) → ((m m' : Moment) (a : Answer) → a ≡ Err power_off → Still m m' None → Sleeps call a m m' None)
-    → Closed (moment fit s' e) → Asleep fit s d r s' e → Stepped call (moment fit s d) (told r) (moment fit s' e)
-asleep_stepped call told fit s s' d e r plain sleeps closed x =
-    let same : moment fit s' e ≡ moment fit s d = cc (x.state, x.device) in
-    ∣ (new_book, None, inr (x.off, sleeps (moment fit s d) (moment fit s' e) (told r) (ap told x.answer ∙ plain) (record { same = same; none = refl })), closed) ∣₁
+-- What stands after a change by which so many transactions are entered newly.
+pub record After (k : Held) (ts : List Transaction) (issued : List ℕ) (amount : ℕ) (new : List Entered) : Type 0 where
+  pub books : Books (ts ++ law.transactions new) (issued ++ map (λ (x : Entered). amount) new)
+  pub inside : AllInside (ts ++ law.transactions new)
+  pub rests : RestsAt (working k) (ts ++ law.transactions new)
 
--- A change of a book, by its answer.
-module _ (c : Change) (flush : Bool) (b : Book) (fit : Bool) (s s' : State) (d e : Disk) (proper : Proper c) (h : HoldsBook s b) where
-  abbrev pub Did : Answer → Type 0
-  Did a = (did : Option below.Event) × Changing c flush b a (moment fit s d) (moment fit s' e) did
+entering : (e : Bool) (x : Entered) (p : held.Held) (h k : Held) (ts : List Transaction) (issued : List ℕ) (amount : ℕ) (b : Book)
+    → x.transaction ≡ law.own_transaction p.state → Books ts issued → AllInside ts
+    → byte_in p.state.image.memory ≡ made_of (ts ++ (law.own_transaction p.state ∷ []))
+    → byte_in h.store.state.image.memory ≡ made_of ts
+    → Holds (made_of (ts ++ (law.own_transaction p.state ∷ []))) b → b.issued ≡ sum issued + amount → Leaving e k p h.store → After k ts issued amount (cond e (x ∷ []) [])
+entering true x p h k ts issued amount b is books inside own was holds total (inl (so, same)) =
+    subst (λ (t : Transaction). After k ts issued amount (record { transaction = t; since = x.since; found = x.found } ∷ [])) (sym is)
+    (record {
+      books = books_more ts issued (law.own_transaction p.state) amount books b holds total;
+      inside = inside_append ts (law.own_transaction p.state ∷ []) inside (own_inside p.state, tt);
+      rests = λ on. record { memory = ap byte_in (same on).memory ∙ own; clean = (same on).clean };
+    })
+entering true x p h k ts issued amount b is books inside own was holds total (inr (so, same)) = absurd (both_ways true so refl)
+entering false x p h k ts issued amount b is books inside own was holds total (inl (so, same)) = absurd (both_ways false refl so)
+entering false x p h k ts issued amount b is books inside own was holds total (inr (so, same)) =
+    record {
+      books = subst (λ (us : List Transaction). Books us (issued ++ [])) (sym (append_none ts)) (subst (Books ts) (sym (append_none issued)) books);
+      inside = subst AllInside (sym (append_none ts)) inside;
+      rests = λ on. record { memory = ap byte_in (same on).memory ∙ was ∙ ap made_of (sym (append_none ts)); clean = (same on).clean };
+    }
 
-  pub refused : (f : LedgerFault) → Refused (rows_of c b) s d f s' e → Did (Err f)
-  refused f x = (None, inl (f, x.fits, refl, record { same = cc (x.state, x.device); none = refl }))
+module _ (c : Change) (flushed : Bool) (h k : Held) (x : Result (ℕ × ℕ) StoreFault) (amount : ℕ) (sums : Sums c amount) (m : Made c flushed h x k)
+    (did : List store.Event) (d : Does h.store m.made flushed x k.store m.changes did) (xs : List Entered) (issued : List ℕ) (w : Keeps (working h) xs issued) where
+  abbrev ch : Changes h.store m.made flushed x k.store
+  ch = m.changes
 
-  pub undone : (f : LedgerFault) → Undone (rows_of c b) (edits_of c b) s d flush f s' e → Did (Err f)
-  undone f x =
-      let r = committed_by c flush b fit s s' d e (Err x.fault) proper h x.fits x.changes in
-      subst Did (ap Err (sym x.is)) (r.0, inr r.1)
+  abbrev p : held.Held
+  p = ch.prepared
 
-  pub done : (o : ℕ) (a : Answer) → a ≡ Ok (told_as c b o) → Done (rows_of c b) (edits_of c b) (book_after c b) s d flush o s' e → Did a
-  done o a is x =
-      let r = committed_by c flush b fit s s' d e (Ok (o, x.records)) proper h x.fits x.changes in
-      subst Did (sym is) (r.0, inr r.1)
+  abbrev ts : List Transaction
+  ts = law.transactions xs
 
-  pub changed : (r : Result ℕ LedgerFault) → ((o : ℕ) → told_as c b o ≡ told.Changed o) → ChangesBook (rows_of c b) (edits_of c b) (book_after c b) s d flush r s' e → Did (told_ordinal r)
-  changed (Ok o) plain x = done o (Ok (told.Changed o)) (ap Ok (sym (plain o))) x
-  changed (Err f) plain (inl x) = refused f x
-  changed (Err f) plain (inr x) = undone f x
+  abbrev call : store.Call
+  call = store.commit ch.token.number flushed x
 
--- A change that answers its ordinal is a step of a run.
-pub change_stepped : (c : Change) (flush fit : Bool) (s s' : State) (d e : Disk) (r : Result ℕ LedgerFault) → Proper c → ((b : Book) (o : ℕ) → told_as c b o ≡ told.Changed o)
-    → (on fit s ≡ true → ∥ ((b : Book) × HoldsBook s b) ∥₁) → Closed (moment fit s' e)
-    → OnBook (rows_of c) (edits_of c) (book_after c) fit s d flush r s' e → Stepped (Make c flush) (moment fit s d) (told_ordinal r) (moment fit s' e)
-change_stepped c flush fit s s' d e r proper plain some closed (inl x) =
-    asleep_stepped (Make c flush) told_ordinal fit s s' d e r refl (λ m m' a is still. (is, still)) closed x
-change_stepped c flush fit s s' d e r proper plain some closed (inr (on-is, does)) =
-    ∥∥₁_map (some on-is) (λ k.
-    let did = changed c flush k.0 fit s s' d e proper k.1 r (plain k.0) (does k.0 k.1) in
-    (k.0, did.0, inl (on-is, k.1, did.1), closed))
+  rests : Rests h ts
+  rests = w.rests m.on
 
--- A step whose ledger keeps in its own words that it was found a ledger, and whose call and answer have other names.
-pub stepped_so : (call call' : Call) (a a' : Answer) (fit fit' : Bool) (s s' : State) (d e : Disk) → call ≡ call' → a ≡ a' → fit' ≡ fit → Stepped call' (moment fit s d) a' (moment fit s' e) → Stepped call (moment fit s d) a (moment fit' s' e)
-stepped_so call call' a a' fit fit' s s' d e is told same h =
-    subst (λ (x : Call). Stepped x (moment fit s d) a (moment fit' s' e)) (sym is)
-    (subst (λ (x : Answer). Stepped call' (moment fit s d) x (moment fit' s' e)) (sym told)
-    (subst (λ (x : Bool). Stepped call' (moment fit s d) a' (moment x s' e)) (sym same) h))
+  before : byte_in p.state.image.before ≡ made_of ts
+  before = ap byte_in (ch.prepares.before ∙ ledger.unchanged h.store.state.image rests.clean) ∙ rests.memory
 
--- The same of a call that names its change and its ledger in its own way.
-pub change_step : (c c' : Change) (flush fit fit' : Bool) (s s' : State) (d e : Disk) (r : Result ℕ LedgerFault) (a : Answer) → c ≡ c' → a ≡ told_ordinal r → fit' ≡ fit → Proper c'
-    → ((b : Book) (o : ℕ) → told_as c' b o ≡ told.Changed o) → (on fit s ≡ true → ∥ ((b : Book) × HoldsBook s b) ∥₁) → (on fit' s' ≡ true → declared s'.image ≡ [])
-    → OnBook (rows_of c') (edits_of c') (book_after c') fit s d flush r s' e → Stepped (Make c flush) (moment fit s d) a (moment fit' s' e)
-change_step c c' flush fit fit' s s' d e r a is told same proper plain some closed does =
-    stepped_so (Make c flush) (Make c' flush) a (told_ordinal r) fit fit' s s' d e (ap (λ (x : Change). Make x flush) is) told same
-    (change_stepped c' flush fit s s' d e r proper plain some (λ k. closed (ap (λ (x : Bool). on x s') same ∙ k)) does)
+  prepared : byte_in p.state.image.memory ≡ after_edits m.made (byte_in h.store.state.image.memory)
+  prepared = fun_ext ch.prepares.memory
+
+  b : Whole h issued
+  b = whole h xs issued w m.on
+
+  holds : Holds (made_of (ts ++ (law.own_transaction p.state ∷ []))) (c.after b.book)
+  holds =
+      let next = sums.lawful (byte_in h.store.state.image.memory) b.book b.holds (m.fits b.book b.holds) in
+      let done = subst (λ (ys : List Edit). Holds (after_edits ys (byte_in h.store.state.image.memory)) (c.after b.book)) (sym (m.are b.book b.holds)) next in
+      subst (λ (f : ℕ → ℕ). Holds f (c.after b.book)) (sym prepared ∙ same_own p.state ts before) done
+
+  after : After k ts issued amount (law.newly call (store.working p) d.done)
+  after =
+      entering (store.does_enter p.state ch.token.number flushed) (record { transaction = law.own_transaction p.state; since = d.done; found = false }) p h k ts issued amount (c.after b.book) refl
+      w.books w.inside (same_own p.state ts before) rests.memory holds (sums.total b.book ∙ ap (λ (i : ℕ). i + amount) b.total)
+      (leaving h.store k m.made flushed x ch rests.clean d.commits.0)
+
+  entered : newly did ≡ law.newly call (store.working p) d.done
+  entered = ap newly d.events ∙ changing_enters h.store k.store m.made flushed x ch d.done d.cut
+
+  grown : Grown (law.places_at (store.working h.store)) xs (newly did) (entered_after did (Some xs))
+  grown =
+      all_grow did (law.places_at (store.working h.store)) xs
+      (subst AllPlain (sym d.events) (changing_plain h.store k.store m.made flushed x ch d.done d.cut))
+
+  places : law.places_at (store.working k.store) ≡ law.places_at (store.working h.store)
+  places =
+      ap (λ (q : Plate). q.sectors - 64)
+      (tried_plate (store.commit_plan p.state ch.token.number flushed) p.disk d.done d.cut x k.store.disk d.commits.1
+      ∙ ap (λ (q : Disk). q.plate) (ledger.prepared_disk h.store k.store m.made flushed x ch))
+
+  pub made_stands : Stands (working k) (entered_after did (Some xs)) (Some (issued ++ map (λ (y : Entered). amount) (newly did)))
+  made_stands =
+      let a = subst (After k ts issued amount) (sym entered) after in (
+        grown.ys,
+        grown.is,
+        record {
+          first = subst (λ (n : ℕ). FirstKept n grown.ys) (sym places) (grown.first w.first);
+          books = subst (λ (us : List Transaction). Books us (issued ++ map (λ (y : Entered). amount) (newly did))) (sym grown.same) a.books;
+          inside = subst AllInside (sym grown.same) a.inside;
+          rests = subst (RestsAt (working k)) (sym grown.same) a.rests;
+        },
+      )

@@ -1,123 +1,130 @@
--- How a ledger stands that was just made.
-use Rattle.std.proofs.Common.{◌≡◌, ℕ, ◌+◌, ◌≤◌, Bool, true, [], ◌∷◌, ◌++◌, Some, None, Ok, Err, Result, sym, refl, ap, ◌∙◌, subst, inl, inr, arith}
-use Rattle.device.specs.Disk.{Disk}
+-- What stands once a ledger was made.
+use Rattle.std.proofs.Common.{◌≡◌, ℕ, ◌-◌, ◌≤◌, Bool, true, false, cond, List, [], ◌∷◌, ◌++◌, map, length, Some, None, Ok, Err, Option, Result, sym, refl, ap, ◌∙◌, subst, inl, inr, arith}
+use Rattle.device.specs.Disk.{Disk, Plate}
+use Rattle.image.specs.Calls.{declared}
 use Rattle.transactions.specs.declared.fault.StoreFault.{StoreFault}
-use Rattle.transactions.specs.declared.log.Log.{Log}
-use Rattle.transactions.specs.declared.state.State.{State}
+use Rattle.transactions.specs.Held as held
+use Rattle.transactions.specs.Calls.{CommitsParts}
 use Rattle.transactions.specs.Rows.{first_fit, token_rows}
-use Rattle.transactions.specs.Calls.{Commits, CommitsParts}
-use Rattle.law.specs.declared.script.Slot.TheVariants.{First}
-use Rattle.law.specs.declared.script.Deed.TheVariants.{Commit}
-use Rattle.law.specs.declared.script.Call.TheVariants as store
-use Rattle.law.specs.Transactions.{made_of}
-use Rattle.law.specs.History.{History, Sound}
-use Rattle.law.specs.Events as below
+use Rattle.law.specs.Transactions.{Transaction, made_of}
+use Rattle.law.specs.Kept.{Entered, Kept, AllKept}
+use Rattle.law.specs.Events as store
 use Rattle.law.specs.Law as law
-use Rattle.law.proofs.Standing.{rests, begins}
-use Rattle.law.proofs.Steps as kept
-use Rattle.law.proofs.Tracing.{stepped_first}
+use Rattle.book.specs.declared.fault.LedgerFault.{LedgerFault}
 use Rattle.book.specs.Layout.{byte_in}
 use Rattle.book.specs.Book.{Holds, new_book}
 use Rattle.book.specs.Edits.{make_edits}
-use Rattle.ledger.specs.Calls.{Made}
-use Rattle.ledger_law.specs.Events.{Moment, moment, Below, committing, token, Closed}
-use Rattle.ledger_law.specs.Keeping.{Books, Keeps}
-use Rattle.ledger_law.specs.Run.{FromMake, standing_made}
-use Rattle.ledger_law.proofs.Beyond.{same_own}
-use Rattle.ledger_law.proofs.Standing.{prepared_sound, books_more}
+use Rattle.changes.specs.Changes.{Changes}
+use Rattle.ledger.specs.Sound.{Held, HoldsBook, is_on}
+use Rattle.ledger.specs.Calls.{Linked}
+use Rattle.ledger.proofs.Standing as ledger
+use Rattle.ledger.proofs.Fresh.{blank_memory}
+use Rattle.ledger_law.specs.Below.{event, silent, putting, changing, Does, One}
+use Rattle.ledger_law.specs.Events.{working}
+use Rattle.ledger_law.specs.Law.{entered_after, newly}
+use Rattle.ledger_law.proofs.Sectors.{tried_plate}
+use Rattle.ledger_law.proofs.Entering.{FirstKept, Grown, AllPlain, all_grow, changing_plain, changing_enters}
+use Rattle.ledger_law.proofs.Memories.{AllInside, own_inside, same_own}
+use Rattle.ledger_law.proofs.Books.{Books, no_books, books_more}
+use Rattle.ledger_law.proofs.Keeping.{RestsAt, Keeps, Stands}
+use Rattle.ledger_law.proofs.Changing.{passing}
 
-no_books : Books [] []
-no_books = record { long = refl; each = λ j from to. absurd (omega (arith, from, to)) }
+-- Events of the store in two parts.
+pub lawful_split : (es fs : List store.Event) (h : law.History) → law.AllLawful (es ++ fs) h → law.AllLawful es h × law.AllLawful fs (entered_after es h)
+lawful_split [] fs h all = (tt, all)
+lawful_split (e ∷ es) fs h (first, all) = let r = lawful_split es fs (law.after e h) all in ((first, r.0), r.1)
 
--- a commit that answers 52 records entered its transaction
-parts_of : (s s' : State) (d e : Disk) (r : Result (ℕ × ℕ) StoreFault) (k : ℕ) → below.told_commit (Ok (1, 52)) ≡ below.told_commit r → Commits s d k true r s' e
-    → (x : ℕ × ℕ) × CommitsParts s d true x s' e
-parts_of s s' d e (Ok x) k is (_, inl c) = absurd (let z : ◌≡◌ {A = ℕ} 52 0 = cc (is, c.answer) in omega arith)
-parts_of s s' d e (Ok x) k is (_, inr c) = (x, c)
-parts_of s s' d e (Err f) k is c = absurd (let z : ◌≡◌ {A = ℕ} 0 1 = cc in omega arith)
+pub entered_append : (es fs : List store.Event) (h : law.History) → entered_after (es ++ fs) h ≡ entered_after fs (entered_after es h)
+entered_append [] fs h = refl
+entered_append (e ∷ es) fs h = entered_append es fs (law.after e h)
 
-module _ (d : Disk) (m : Moment) (did : Below) (x : FromMake d m did) where
-  abbrev p : State
-  p = x.prepared
+-- the first of transactions that are all kept
+first_of_all : (n : ℕ) (ys : List Entered) (t : Transaction) → law.transactions ys ≡ t ∷ [] → AllKept n 0 ys → FirstKept n ys
+first_of_all n [] t is all = absurd (let z : ◌≡◌ {A = ℕ} 0 1 = ap length is in omega arith)
+first_of_all n (y ∷ ys) t is all = all.0
 
-  abbrev n : ℕ
-  n = x.format.0
+parts_of : (h k : held.Held) (number : ℕ) → held.Commits number true h (Ok (1, 52)) k → CommitsParts h.state h.disk true (1, 52) k.state k.disk
+parts_of h k number (fits, inl n) = absurd (let z : ◌≡◌ {A = ℕ} 52 0 = ap (λ (x : ℕ × ℕ). x.1) n.answer in omega arith)
+parts_of h k number (fits, inr parts) = parts
 
-  abbrev ev : Below
-  ev = committing p x.formatted true (Ok (1, 52)) m.state m.disk x.made
+token_of : (h k : held.Held) (number : ℕ) → held.Commits number true h (Ok (1, 52)) k → first_fit (token_rows h.state number) ≡ None
+token_of h k number (fits, c) = fits
 
-  abbrev none : History
-  none = law.nothing_entered
+module _ (d : Disk) (k : Held) (l : Linked d (Ok (1, 52)) k) (did : List store.Event)
+    (x : Does l.formatted make_edits true (Ok (1, 52)) k.store l.changes did)
+    (all : law.AllLawful did (Some [])) (holds : HoldsBook k.store.state new_book) where
+  abbrev ch : Changes l.formatted make_edits true (Ok (1, 52)) k.store
+  ch = l.changes
 
-  happened : below.Happens ev
-  happened = subst below.Happens x.is x.happens
+  abbrev p : held.Held
+  p = ch.prepared
 
-  sound : Sound n p x.formatted none
-  sound = prepared_sound n x.new x.formatted none make_edits p (begins d x.formatted x.new tt x.format) x.format.2.on x.prepares
+  abbrev call : store.Call
+  call = store.commit ch.token.number true (Ok (1, 52))
 
-  took : law.Lawful ev none × Sound n m.state m.disk (law.after_event ev none)
-  took =
-      kept.step n (store.With First (Commit true)) (below.told_commit (Ok (1, 52))) (below.moment p x.formatted (Some (token (p.log.ordinal + 1))) None)
-      (below.moment m.state m.disk None None) x.made none sound happened
+  abbrev own : Transaction
+  own = law.own_transaction p.state
 
-  parts : (y : ℕ × ℕ) × CommitsParts p x.formatted true y m.state m.disk
-  parts = go happened
-    where
-      go : below.Happens ev → (y : ℕ × ℕ) × CommitsParts p x.formatted true y m.state m.disk
-      go (held, (_, (r, is, commits)), _, _) = parts_of p m.state x.formatted m.disk r (p.log.ordinal + 1) is commits
+  parts : CommitsParts p.state p.disk true (1, 52) k.store.state k.store.disk
+  parts = parts_of p k.store ch.token.number x.commits.0
 
-  abbrev enters : Bool
-  enters = below.does_enter p (Some (token (p.log.ordinal + 1))) true
+  enters : store.does_enter p.state ch.token.number true ≡ true
+  enters = passing p.state ch.token.number true (token_of p k.store ch.token.number x.commits.0) parts.some parts.passes
 
-  entered : enters ≡ true
+  abbrev mine : Entered
+  mine = record { transaction = own; since = x.done; found = false }
+
+  entered : newly did ≡ mine ∷ []
   entered =
-      let c = parts.1 in
-      kept.passing p (token (p.log.ordinal + 1)) true (fits happened) c.some c.passes
+      ap newly x.events ∙ changing_enters l.formatted k.store make_edits true (Ok (1, 52)) ch x.done x.cut
+      ∙ ap (λ (b : Bool). cond b (mine ∷ []) []) enters
+
+  places : law.places_at (store.working k.store) ≡ law.places_at (store.working p)
+  places = ap (λ (q : Plate). q.sectors - 64) (tried_plate (store.commit_plan p.state ch.token.number true) p.disk x.done x.cut (Ok (1, 52)) k.store.disk x.commits.1)
+
+  grown : Grown 0 [] (newly did) (entered_after did (Some []))
+  grown = all_grow did 0 [] (subst AllPlain (sym x.events) (changing_plain l.formatted k.store make_edits true (Ok (1, 52)) ch x.done x.cut))
+
+  stand : law.transactions grown.ys ≡ own ∷ []
+  stand = grown.same ∙ ap law.transactions entered
+
+  -- all is kept once the commit succeeded
+  before_commit : List store.Event
+  before_commit = silent (store.begin (Ok ch.token)) l.formatted ch.begun ∷ putting ch.token.number make_edits ch.begun p ch.puts
+
+  commits : store.Event
+  commits = event call (store.working p) x.done x.cut (store.working k.store)
+
+  kept : AllKept (law.places_at (store.working p)) 0 grown.ys
+  unfolding before_commit commits
+  kept =
+      let same : did ≡ before_commit ++ (commits ∷ []) = x.events in
+      let all' = subst (λ (es : List store.Event). law.AllLawful es (Some [])) same all in
+      let last = (lawful_split before_commit (commits ∷ []) (Some []) all').1.0 in
+      let so = ap (λ (es : List store.Event). entered_after es (Some [])) same ∙ entered_append before_commit (commits ∷ []) (Some []) in
+      keep (entered_after before_commit (Some [])) last (sym so ∙ grown.is)
     where
-      fits : below.Happens ev → first_fit (token_rows p (p.log.ordinal + 1)) ≡ None
-      fits (held, (_, (Ok y, is, (e, _))), _, _) = e
-      fits (held, (_, (Err f, is, _)), _, _) = absurd (let z : ◌≡◌ {A = ℕ} 0 1 = cc in omega arith)
+      keep : (g : law.History) → law.Lawful commits g → law.after commits g ≡ Some grown.ys → AllKept (law.places_at (store.working p)) 0 grown.ys
+      keep None lawful is = absurd (let z : ◌≡◌ {A = ℕ} 0 1 = cc in omega arith)
+      keep (Some zs) lawful is = subst (law.AllAreKept (store.working p)) is (lawful 1 52 refl refl (omega arith))
 
-  -- its one transaction is entered and kept
-  books : Books (law.entered_after enters p []) (0 ∷ [])
-  books =
-      let c = parts.1 in
-      let r = rests n p x.formatted none sound x.prepares.on in
-      let memory : byte_in m.state.image.memory ≡ made_of ([] ++ (law.own_transaction p ∷ [])) = ap byte_in c.image.memory ∙ same_own p none tt r.before in
-      subst (λ (e : Bool). Books (law.entered_after e p []) (0 ∷ [])) (sym entered)
-      (books_more [] [] (law.own_transaction p) 0 no_books new_book (subst (λ f. Holds f new_book) memory x.holds) refl)
+  before : byte_in p.state.image.before ≡ made_of []
+  before = ap byte_in (ch.prepares.before ∙ l.format.2.idle.before) ∙ blank_memory l.format.0 l.formatted.state l.format.2
 
-  some : 1 ≤ (law.after_event ev none).kept
-  some =
-      let all = took.0 1 52 refl refl (omega arith) in
-      let long = books.long in
-      omega (arith, all, long)
+  memory : byte_in k.store.state.image.memory ≡ made_of ([] ++ (own ∷ []))
+  memory = ap byte_in parts.image.memory ∙ same_own p.state [] before
 
-  pub made_keeps : Keeps n m (standing_made did)
-  made_keeps =
-      subst (λ (y : Below). Keeps n m (standing_made y)) (sym x.is) (record { sound = took.1; some = some; books = books; closed = x.closed })
-
--- What a make answers that succeeds is the start of a run.
-pub made_from : (d e : Disk) (fit : Bool) (s : State) → fit ≡ true → Closed (moment fit s e) → Made d s e → (did : Below) × FromMake d (moment fit s e) did
-made_from d e fit s is closed x =
-    let p = x.changes.0 in
-    let prepares = x.changes.1 in
-    let same : x.new.log.ordinal + 1 ≡ p.log.ordinal + 1 = ap (λ (l : Log). l.ordinal + 1) (sym prepares.log) in
-    let commits = subst (λ (k : ℕ). Commits p x.formatted k true (Ok (1, 52)) s e) same x.changes.2 in
-    let stepped =
-    stepped_first (Commit true) p s x.formatted e (Some (token (p.log.ordinal + 1))) None None (below.told_commit (Ok (1, 52))) (refl, (Ok (1, 52), refl, commits)) in (
-      committing p x.formatted true (Ok (1, 52)) s e stepped.0,
-      record {
-        new = x.new;
-        formatted = x.formatted;
-        format = x.format;
-        prepared = p;
-        prepares = prepares;
-        made = stepped.0;
-        is = refl;
-        happens = stepped.1;
-        holds = x.holds;
-        closed = closed;
-        fit = is;
-      },
-    )
+  pub make_keeps : Stands (working k) (entered_after did (Some [])) (Some ([] ++ map (λ (y : Entered). 0) (newly did)))
+  make_keeps =
+      let books = books_more [] [] own 0 no_books new_book (subst (λ (f : ℕ → ℕ). Holds f new_book) memory holds) refl in (
+        grown.ys,
+        grown.is,
+        record {
+          first = subst (λ (n : ℕ). FirstKept n grown.ys) (sym places) (first_of_all (law.places_at (store.working p)) grown.ys own stand kept);
+          books =
+              subst (λ (us : List Transaction). Books us (map (λ (y : Entered). 0) (newly did))) (sym stand)
+              (subst (λ (new : List Entered). Books (own ∷ []) (map (λ (y : Entered). 0) new)) (sym entered) books);
+          inside = subst AllInside (sym stand) (own_inside p.state, tt);
+          rests = λ on. record { memory = memory ∙ ap made_of (sym stand); clean = parts.image.clean };
+        },
+      )

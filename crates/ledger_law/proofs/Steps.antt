@@ -1,212 +1,192 @@
--- One event keeps the law.
-use Rattle.std.proofs.Common.{◌≡◌, ℕ, ◌+◌, ◌≤◌, Bool, true, false, cond, List, [], ◌∷◌, ◌++◌, length, take, Some, None, Ok, Err, Option, Result, sym, refl, ap, ◌∙◌, subst, inl, inr, arith, sum}
-use Rattle.std.proofs.lemmas.Bool.{and_parts}
+-- One event keeps the law, and so do all of a run.
+use Rattle.std.proofs.Common.{append_assoc, ◌≡◌, ℕ, ◌-◌, Bool, true, false, List, [], ◌∷◌, ◌++◌, map, Some, None, Ok, Err, Option, Result, sym, refl, ap, ◌∙◌, subst, inl, inr, arith}
+use Rattle.std.proofs.lemmas.Bool.{both_ways}
+use Rattle.device.specs.Disk.{Disk, Plate}
 use Rattle.device.specs.Trace.{Act}
+use Rattle.image.specs.declared.state.Image.{Image}
+use Rattle.image.specs.Calls.{declared}
 use Rattle.transactions.specs.declared.fault.StoreFault.{StoreFault}
-use Rattle.transactions.specs.declared.state.State.{State}
-use Rattle.law.specs.declared.script.Slot.TheVariants.{First}
-use Rattle.law.specs.declared.script.Deed.TheVariants.{Commit}
-use Rattle.law.specs.declared.script.Call.TheVariants as store
-use Rattle.law.specs.Transactions.{Transaction}
-use Rattle.law.specs.History.{History, Sound}
-use Rattle.law.specs.Events as below
+use Rattle.transactions.specs.Held as held
+use Rattle.law.specs.Transactions.{Transaction, made_of}
+use Rattle.law.specs.Kept.{Entered}
+use Rattle.law.specs.Events as store
 use Rattle.law.specs.Law as law
-use Rattle.law.proofs.Batches.{proper_take}
-use Rattle.law.proofs.Standing.{rests, safe}
-use Rattle.law.proofs.Steps as kept
-use Rattle.book.specs.declared.fault.LedgerFault.TheVariants.{Store}
-use Rattle.book.specs.Fault.{number}
+use Rattle.book.specs.declared.fault.LedgerFault.{LedgerFault}
 use Rattle.book.specs.Layout.{byte_in}
-use Rattle.book.specs.Book.{Book, Holds}
-use Rattle.book.specs.Edits.{paid}
-use Rattle.book.proofs.Totals.{same_issued}
-use Rattle.ledger.specs.Calls.{HoldsBook}
-use Rattle.ledger_law.specs.declared.script.Change.{Change}
-use Rattle.ledger_law.specs.declared.script.Change.TheVariants.{Issue, Transfer, Visit, Enrol, DropTag, Collect}
-use Rattle.ledger_law.specs.declared.script.Call.{Call}
-use Rattle.ledger_law.specs.declared.script.Call.TheVariants.{Make, Find, Balance, Flush, Truncate, Reopen}
-use Rattle.ledger_law.specs.declared.script.Told.TheVariants as told
-use Rattle.ledger_law.specs.Events.{Answer, Moment, is_on, Event, Below, Still, Committed, Flushed, Truncated, Reopened, token, committing, edits_of, book_after, issued_by, reopening, AnswersOpening, Closed, TakesPlace, Sleeps, Works}
-use Rattle.ledger_law.specs.Law.{Standing, OnlyPower, LawfulBelow, issued_after, after_event, Lawful}
-use Rattle.ledger_law.proofs.Beyond.{same_own, same_memory}
-use Rattle.ledger_law.specs.Keeping.{Books, Keeps}
-use Rattle.ledger_law.proofs.Standing.{kept_few, conserved, books_entered, books_found, prepared_sound}
+use Rattle.ledger.specs.Sound.{Held, is_on}
+use Rattle.ledger.specs.Calls.{Change, OnBook, OnStore, Makes, issuing, moving, visiting, enrolling, dropping, collecting, ByOrdinal, WithFront}
+use Rattle.ledger.proofs.Standing as ledger
+use Rattle.ledger_law.specs.Below.{event, One}
+use Rattle.ledger_law.specs.Events.{Moment, working, closed, below, Call, make, opening, close, issue, move, visit, enrol, drop_tag, collect, find, balance, flush, truncate, Event, DidMake, DidChange, DidOnStore, Happens, Chain, all_did}
+use Rattle.ledger_law.specs.Law.{Standing, nothing, entered_after, newly, amount_of, stood, with_new, after, ConservedAt, OpensLawfully, Lawful, AllLawful, Conserving}
+use Rattle.ledger_law.proofs.Chains.{runs_below}
+use Rattle.ledger_law.proofs.Sectors.{tried_plate, looking_plate}
+use Rattle.ledger_law.proofs.Entering.{FirstKept, Plain, Grown, plain_grows}
+use Rattle.ledger_law.proofs.Sums.{Sums, issuing_sums, moving_sums, visiting_sums, enrolling_sums, dropping_sums, collecting_sums}
+use Rattle.ledger_law.proofs.Keeping.{Rests, RestsAt, Keeps, Stands, conserved, keeps_so}
+use Rattle.ledger_law.proofs.Changing.{made_stands}
+use Rattle.ledger_law.proofs.Making.{lawful_split, entered_append, make_keeps}
+use Rattle.ledger_law.proofs.Opening.{opening_keeps}
 
--- The event that these make.
-abbrev pub event : Call → Answer → Moment → Moment → Book → Option Below → Event
-event call a m m' b did = record { call = call; answer = a; before = m; after = m'; book = b; did = did }
+append_none : {X : Type 0} (xs : List X) → xs ++ [] ≡ xs
+append_none [] = refl
+append_none (x ∷ xs) = ap (λ ys. x ∷ ys) (append_none xs)
 
--- what is issued by a change is what it adds to the total
+-- What stands after a call by which this is done below.
+abbrev Then : Moment → ℕ → List store.Event → List Entered → List ℕ → Type 0
+Then m' amount did xs issued = Stands m' (entered_after did (Some xs)) (Some (issued ++ map (λ (x : Entered). amount) (newly did)))
 
-paid_issued : (payer : Option ℕ) (guard : ℕ) (b : Book) → (paid payer guard b).issued ≡ b.issued
-paid_issued None guard b = refl
-paid_issued (Some payer) guard b = refl
+-- nothing was done, and nothing moved
+still : (m m' : Moment) (amount : ℕ) (did : List store.Event) (xs : List Entered) (issued : List ℕ) → m' ≡ m → did ≡ [] → Keeps m xs issued → Then m' amount did xs issued
+still m m' amount did xs issued same none w =
+    subst (λ (es : List store.Event). Then m' amount es xs issued) (sym none)
+    (xs, refl, subst (Keeps m' xs) (sym (append_none issued)) (subst (λ (x : Moment). Keeps x xs issued) (sym same) w))
 
-total_after : (c : Change) (b : Book) → (book_after c b).issued ≡ b.issued + issued_by c
-total_after (Issue a amount) b = refl
-total_after (Transfer payer payee amount) b = omega arith
-total_after (Visit id guard) b = paid_issued _ guard b ∙ omega arith
-total_after (Enrol id a) b = omega arith
-total_after (DropTag id) b = omega arith
-total_after (Collect a) b = omega arith
+-- one plain call of the store that enters nothing, after which the ledger rests as before
+one_call : (call : store.Call) (m m' : Moment) (amount : ℕ) (did : List store.Event) (xs : List Entered) (issued : List ℕ) → Plain call → ((n : store.Moment) (done : List Act) → law.newly call n done ≡ [])
+    → One call (below m) did (below m') → law.places_at (below m') ≡ law.places_at (below m) → RestsAt m' (law.transactions xs) → Keeps m xs issued → Then m' amount did xs issued
+one_call call m m' amount did xs issued plain none o places rests w =
+    let new = none (below m) o.done in
+    let grown : Grown (law.places_at (below m)) xs (law.newly call (below m) o.done) (law.after_call call (below m) o.done (Some xs)) = plain_grows call (below m) o.done (law.places_at (below m)) xs plain in
+    let same : law.transactions grown.ys ≡ law.transactions xs =
+    grown.same ∙ ap (λ (ys : List Entered). law.transactions xs ++ law.transactions ys) new ∙ append_none (law.transactions xs) in
+    let keeps : Keeps m' grown.ys issued = keeps_so m m' xs grown.ys issued w places same grown.first rests in
+    subst (λ (es : List store.Event). Then m' amount es xs issued) (sym o.event) (
+      grown.ys,
+      grown.is,
+      subst (λ (ys : List Entered). Keeps m' grown.ys (issued ++ map (λ (x : Entered). amount) (ys ++ []))) (sym new)
+          (subst (Keeps m' grown.ys) (sym (append_none issued)) keeps),
+    )
 
--- as many are kept as before, or all
-some_kept : (made : List Act) (ts : List Transaction) (k : ℕ) → 1 ≤ k → 1 ≤ length ts → 1 ≤ (law.with_barrier made ts k).kept
-some_kept made ts k some some' = go (law.settles made)
-  where
-    go : (b : Bool) → 1 ≤ cond b (length ts) k
-    go true = some'
-    go false = some
+-- a change
+change : {A : Type 0} (c : Change) (answers : Result (ℕ × ℕ) StoreFault → Result A LedgerFault → Type 0) (flushed : Bool) (h k : Held) (r : Result A LedgerFault) (amount : ℕ) (m : OnBook c answers flushed h r k) (did : List store.Event)
+    → Sums c amount → DidChange c answers flushed h r k m did → (xs : List Entered) (issued : List ℕ) → Keeps (working h) xs issued → Then (working k) amount did xs issued
+change c answers flushed h k r amount (inl asleep) did sums none xs issued w = still (working h) (working k) amount did xs issued (ap working asleep.same) none w
+change c answers flushed h k r amount (inr (inl (f, is, refused))) did sums none xs issued w = still (working h) (working k) amount did xs issued (ap working refused.same) none w
+change c answers flushed h k r amount (inr (inr (x, told, m))) did sums does xs issued w = made_stands c flushed h k x amount sums m did does xs issued w
 
-entered_some : (e : Bool) (s : State) (ts : List Transaction) → 1 ≤ length ts → 1 ≤ length (law.entered_after e s ts)
-entered_some true s (u ∷ ts) some = omega arith
-entered_some true s [] some = absurd (omega arith)
-entered_some false s ts some = some
+-- a call that leaves the memory
+resting : (h k : Held) (ts : List Transaction) → (is_on k ≡ true → k.store.state.image ≡ h.store.state.image) → RestsAt (working h) ts → is_on h ≡ true → RestsAt (working k) ts
+resting h k ts image rests on =
+    λ awake.
+    let r = rests on in
+    record { memory = ap (λ (y : Image). byte_in y.memory) (image awake) ∙ r.memory; clean = ap (λ (y : Image). declared y) (image awake) ∙ r.clean }
 
-module _ (n : ℕ) (m m' : Moment) (t : Standing) (w : Keeps n m t) where
-  abbrev h : History
-  h = t.history
+flush_image : (h k : Held) (x : Result ℕ StoreFault) → held.Flushes h.store x k.store → is_on k ≡ true → k.store.state.image ≡ h.store.state.image
+flush_image h k (Ok n) (fits, count, inl (zero, same, device)) on = ap (λ s. s.image) same
+flush_image h k (Ok n) (fits, count, inr (some, done, written, image, busy)) on = image
+flush_image h k (Err f) (inl (fits, same, device)) on = ap (λ s. s.image) same
+flush_image h k (Err f) (inr (fits, some, cut)) on = cut.image
 
-  some_entered : 1 ≤ length h.entered
-  some_entered = omega (arith, w.some, kept_few n m.state m.disk h w.sound)
+truncate_image : (h k : Held) (x : Result ℕ StoreFault) → held.Truncates h.store x k.store → is_on k ≡ true → k.store.state.image ≡ h.store.state.image
+truncate_image h k (Ok n) (fits, inl none) on = ap (λ s. s.image) none.state
+truncate_image h k (Ok n) (fits, inr pages) on = pages.state.image
+truncate_image h k (Err f) (inl (fits, same, device)) on = ap (λ s. s.image) same
+truncate_image h k (Err f) (inr cut) on = cut.image
 
-  -- The law of an event, and what it keeps.
-  abbrev Good : Call → Answer → Book → Option Below → Type 0
-  Good call a b did = Lawful (event call a m m' b did) t × Keeps n m' (after_event (event call a m m' b did) t)
+flush_places : (h k : held.Held) (x : Result ℕ StoreFault) (done : List Act) (cut : Option Act) → store.Happens (store.flush x) (store.working h) done cut (store.working k) → law.places_at (store.working k) ≡ law.places_at (store.working h)
+flush_places h k x done cut (does, tried) = ap (λ (q : Plate). q.sectors - 64) (tried_plate (store.flush_plan h.state) h.disk done cut x k.disk tried)
 
-  good : (call : Call) (a : Answer) (b : Book) (did : Option Below) → OnlyPower call a → LawfulBelow did h → Keeps n m' (after_event (event call a m m' b did) t) → Good call a b did
-  good call a b did opens store keeps = (
-    record { conserved = λ on. conserved n m' (after_event (event call a m m' b did) t) keeps on; opens = opens; store = store },
-    keeps,
-  )
+truncate_places : (h k : held.Held) (x : Result ℕ StoreFault) (done : List Act) (cut : Option Act) → store.Happens (store.truncate x) (store.working h) done cut (store.working k) → law.places_at (store.working k) ≡ law.places_at (store.working h)
+truncate_places h k x done cut (does, inl tried) = ap (λ (q : Plate). q.sectors - 64) (tried_plate (store.truncate_plan h.state h.disk.shows) h.disk done cut x k.disk tried)
+truncate_places h k x done cut (does, inr (none, is, (o, reading))) = ap (λ (q : Plate). q.sectors - 64) (looking_plate h.disk k.disk o reading.cut)
 
-  -- nothing was done
-  still : (call : Call) (a : Answer) (b : Book) (did : Option Below) → OnlyPower call a → issued_after call (event call a m m' b None) t.issued ≡ t.issued → Still m m' did → Good call a b did
-  still call a b did opens issued s =
-      subst (λ (x : Option Below). Good call a b x) (sym s.none)
-      (good call a b None opens tt
-      (subst (λ (is : List ℕ). Keeps n m' (record { history = h; issued = is })) (sym issued)
-      (subst (λ (x : Moment). Keeps n x t) (sym s.same) w)))
+flushes : (h k : Held) (r : Result ℕ LedgerFault) (m : OnStore held.Flushes h r k) (did : List store.Event) → DidOnStore held.Flushes store.flush h r k m did → (xs : List Entered) (issued : List ℕ) → Keeps (working h) xs issued → Then (working k) 0 did xs issued
+flushes h k r (inl asleep) did none xs issued w = still (working h) (working k) 0 did xs issued (ap working asleep.same) none w
+flushes h k r (inr (on, fit, (x, told, does))) did one xs issued w =
+    one_call (store.flush x) (working h) (working k) 0 did xs issued tt (λ n done. refl) one (flush_places h.store k.store x one.done one.cut one.happens)
+    (resting h k (law.transactions xs) (flush_image h k x does) w.rests on) w
 
-  -- a commit
-  module _ (c : Change) (flush : Bool) (b : Book) (a : Answer) (did : Option Below) (on : is_on m ≡ true) (holds : HoldsBook m.state b) (closed : Closed m') (x : Committed c flush b a m m' did) where
-    abbrev p : State
-    p = x.prepared
+truncates : (h k : Held) (r : Result ℕ LedgerFault) (m : OnStore held.Truncates h r k) (did : List store.Event) → DidOnStore held.Truncates store.truncate h r k m did → (xs : List Entered) (issued : List ℕ) → Keeps (working h) xs issued → Then (working k) 0 did xs issued
+truncates h k r (inl asleep) did none xs issued w = still (working h) (working k) 0 did xs issued (ap working asleep.same) none w
+truncates h k r (inr (on, fit, (x, told, does))) did one xs issued w =
+    one_call (store.truncate x) (working h) (working k) 0 did xs issued tt (λ n done. refl) one (truncate_places h.store k.store x one.done one.cut one.happens)
+    (resting h k (law.transactions xs) (truncate_image h k x does) w.rests on) w
 
-    abbrev enters : Bool
-    enters = below.does_enter p (Some (token (p.log.ordinal + 1))) flush
+closes : (h : Held) (e : Disk) (did : List store.Event) → e ≡ h.store.disk → One store.close (store.working h.store) did (store.closed e) → (xs : List Entered) (issued : List ℕ) → Keeps (working h) xs issued → Then (closed e) 0 did xs issued
+closes h e did same one xs issued w = one_call store.close (working h) (closed e) 0 did xs issued tt (λ n done. refl) one (ap (λ (d : Disk). d.plate.sectors - 64) same) tt w
 
-    abbrev ts : List Transaction
-    ts = law.entered_after enters p h.entered
+-- a make
+newly_append : (es fs : List store.Event) → newly (es ++ fs) ≡ newly es ++ newly fs
+newly_append [] fs = refl
+newly_append (e ∷ es) fs =
+    ap (λ (xs : List Entered). law.newly e.call e.before e.done ++ xs) (newly_append es fs)
+    ∙ sym (append_assoc (law.newly e.call e.before e.done) (newly es) (newly fs))
 
-    abbrev ev : Below
-    ev = committing p m.disk flush x.result m'.state m'.disk x.made
+makes : (d : Disk) (k : Held) (u : Unit {0}) (m : Makes d (Ok u) k) (did : List store.Event) → DidMake d (Ok u) k m did → (h : law.History) → law.AllLawful did h
+    → Stands (working k) (entered_after did h) (Some ([] ++ map (λ (x : Entered). 0) (newly did)))
+makes d k u (fit, linked, holds) did (first, rest, is, formats, does) h all =
+    let one : did ≡ event (store.format (Ok tt)) (store.closed d) formats.done formats.cut (store.working linked.formatted) ∷ rest = is ∙ ap (λ (es : List store.Event). es ++ rest) formats.event in
+    let all' = subst (λ (es : List store.Event). law.AllLawful es h) one all in
+    subst (λ (es : List store.Event). Stands (working k) (entered_after es h) (Some ([] ++ map (λ (x : Entered). 0) (newly es)))) (sym one)
+    (make_keeps d k linked rest does all'.1 holds)
 
-    sound : Sound n p m.disk h
-    sound = prepared_sound n m.state m.disk h (edits_of c b) p w.sound (and_parts m.fit m.state.on on).1 x.prepares
+-- The law of an opening, and what stands after an event.
+abbrev Good : Call → Moment → List store.Event → law.History → Option (List ℕ) → Type 0
+Good call m' did h issued = OpensLawfully call issued × Stands m' (entered_after did h) (with_new (amount_of call) (newly did) (stood call issued))
 
-    took : law.Lawful ev h × Sound n m'.state m'.disk (law.after_event ev h)
-    took =
-        kept.step n (store.With First (Commit flush)) (below.told_commit x.result) (below.moment p m.disk (Some (token (p.log.ordinal + 1))) None)
-        (below.moment m'.state m'.disk None None) x.made h sound x.happens
+-- Where so much was issued.
+good : (amount : ℕ) (did : List store.Event) (m m' : Moment) (h : law.History) (issued : List ℕ) → ((xs : List Entered) → Keeps m xs issued → Then m' amount did xs issued)
+    → Stands m h (Some issued) → Stands m' (entered_after did h) (Some (issued ++ map (λ (x : Entered). amount) (newly did)))
+good amount did m m' h issued keeps (xs, is, w) =
+    subst (λ (g : law.History). Stands m' (entered_after did g) (Some (issued ++ map (λ (x : Entered). amount) (newly did)))) (sym is) (keeps xs w)
 
-    total : (book_after c b).issued ≡ sum t.issued + issued_by c
-    total =
-        let k = conserved n m t w on in
-        total_after c b ∙ ap (λ (i : ℕ). i + issued_by c) (same_issued (byte_in m.state.image.memory) b k.0 holds k.1 ∙ k.2)
+step : (call : Call) (m : Moment) (did : List store.Event) (m' : Moment) (h : law.History) (issued : Option (List ℕ)) → Happens call m did m' → Stands m h issued → law.AllLawful did h → Good call m' did h issued
+step (make (Ok u)) (closed d) did (working k) h issued (m, does) s all = (tt, makes d k u m did does h all)
+step (make (Ok u)) m did m' h issued happens s all = absurd happens
+step (make (Err f)) m did m' h issued does s all = (tt, tt)
+step (opening r) (closed d) did (working k) h (Some issued) (m, does) (xs, is, w) all =
+    subst (λ (g : law.History). Good (opening r) (working k) did g (Some issued)) (sym is)
+    (opening_keeps d r k m did does xs issued w (subst (law.AllLawful did) is all))
+step close (working h) did (closed e) g (Some issued) (same, one) s all = (tt, good 0 did (working h) (closed e) g issued (λ xs w. closes h e did same one xs issued w) s)
+step (issue a amount flushed r) (working h) did (working k) g (Some issued) (m, does) s all =
+    (tt, good amount did (working h) (working k) g issued (λ xs. change (issuing a amount) ByOrdinal flushed h k r amount m did (issuing_sums a amount) does xs issued) s)
+step (move payer payee amount flushed r) (working h) did (working k) g (Some issued) (m, does) s all =
+    (tt, good 0 did (working h) (working k) g issued (λ xs. change (moving payer payee amount) ByOrdinal flushed h k r 0 m did (moving_sums payer payee amount) does xs issued) s)
+step (visit id guard flushed r) (working h) did (working k) g (Some issued) (m, does) s all =
+    (tt, good 0 did (working h) (working k) g issued (λ xs. change (visiting id guard) ByOrdinal flushed h k r 0 m did (visiting_sums id guard) does xs issued) s)
+step (enrol id a flushed r) (working h) did (working k) g (Some issued) (eight, m, does) s all =
+    (tt, good 0 did (working h) (working k) g issued (λ xs. change (enrolling id a) ByOrdinal flushed h k r 0 m did (enrolling_sums id a eight) does xs issued) s)
+step (drop_tag id flushed r) (working h) did (working k) g (Some issued) (m, does) s all =
+    (tt, good 0 did (working h) (working k) g issued (λ xs. change (dropping id) ByOrdinal flushed h k r 0 m did (dropping_sums id) does xs issued) s)
+step (collect a flushed r) (working h) did (working k) g (Some issued) (m, does) s all =
+    (tt, good 0 did (working h) (working k) g issued (λ xs. change (collecting a) (WithFront a h) flushed h k r 0 m did (collecting_sums a) does xs issued) s)
+step (find id r) (working h) did (working k) g (Some issued) (finds, same, none) s all =
+    (tt, good 0 did (working h) (working k) g issued (λ xs. still (working h) (working k) 0 did xs issued (ap working same) none) s)
+step (balance a r) (working h) did (working k) g (Some issued) (tells, same, none) s all =
+    (tt, good 0 did (working h) (working k) g issued (λ xs. still (working h) (working k) 0 did xs issued (ap working same) none) s)
+step (flush r) (working h) did (working k) g (Some issued) (m, does) s all =
+    (tt, good 0 did (working h) (working k) g issued (λ xs. flushes h k r m did does xs issued) s)
+step (truncate r) (working h) did (working k) g (Some issued) (m, does) s all =
+    (tt, good 0 did (working h) (working k) g issued (λ xs. truncates h k r m did does xs issued) s)
+step (opening (Ok x)) m did m' g None happens s all = (tt, tt)
+step (opening (Err f)) m did m' g None happens s all = (tt, tt)
+step call m did m' g None happens s all = (tt, tt)
+step call m did m' g (Some issued) happens s all = absurd happens
 
-    books : Books ts (cond enters (t.issued ++ (issued_by c ∷ [])) t.issued)
-    books =
-        let r = rests n p m.disk h sound x.prepares.on in
-        books_entered enters p h.entered t.issued (issued_by c) w.books (book_after c b)
-        (subst (λ f. Holds f (book_after c b)) (same_own p h r.proper r.before) x.holds) total
+-- A ledger conserves what was issued wherever it stands.
+conserves : (m : Moment) (h : law.History) (issued : Option (List ℕ)) → Stands m h issued → ConservedAt m issued
+conserves (working h) g None s = tt
+conserves (closed d) g None s = tt
+conserves m g (Some issued) (xs, is, w) = conserved m xs issued w
 
-    committed : Good (Make c flush) a b did
-    committed =
-        subst (λ (y : Option Below). Good (Make c flush) a b y) (sym x.is)
-        (good (Make c flush) a b (Some ev) tt took.0
-        (record {
-          sound = took.1;
-          some = some_kept x.made ts h.kept w.some (entered_some enters p h.entered some_entered);
-          books = books;
-          closed = closed;
-        }))
+-- What is done below keeps the law of stores at each event.
+abbrev AllBelow : List Event → Standing → Type 0
+AllBelow [] t = Unit {0}
+AllBelow (e ∷ es) t = law.AllLawful e.did t.history × AllBelow es (after e t)
 
-  -- a flush and a truncation
-  flushed : (b : Book) (a : Answer) (did : Option Below) → Closed m' → Flushed a m m' did → Good Flush a b did
-  flushed b a did closed x =
-      let took = kept.step n store.Flush (below.told_flush x.result) (below.moment m.state m.disk None None) (below.moment m'.state m'.disk None None) x.made h w.sound x.happens in
-      subst (λ (y : Option Below). Good Flush a b y) (sym x.is)
-      (good Flush a b _ tt took.0
-      (record { sound = took.1; some = some_kept x.made h.entered h.kept w.some some_entered; books = w.books; closed = closed }))
+all_below : (es : List Event) (t : Standing) → law.AllLawful (all_did es) t.history → AllBelow es t
+all_below [] t all = tt
+all_below (e ∷ es) t all = let s = lawful_split e.did (all_did es) t.history all in (s.0, all_below es (after e t) s.1)
 
-  truncated : (b : Book) (a : Answer) (did : Option Below) → Closed m' → Truncated a m m' did → Good Truncate a b did
-  truncated b a did closed x =
-      let took = kept.step n store.Truncate (below.told_truncate x.result) (below.moment m.state m.disk None None) (below.moment m'.state m'.disk None None) x.made h w.sound x.happens in
-      subst (λ (y : Option Below). Good Truncate a b y) (sym x.is)
-      (good Truncate a b _ tt took.0
-      (record { sound = took.1; some = some_kept x.made h.entered h.kept w.some some_entered; books = w.books; closed = closed }))
+all_lawful : (m : Moment) (es : List Event) (m' : Moment) (t : Standing) → Chain m es m' → Stands m t.history t.issued → AllBelow es t → AllLawful es t
+all_lawful m [] m' t chain s b = tt
+all_lawful m (e ∷ es) m' t (is, happens, rest) s (lawful, b) =
+    let here = subst (λ (x : Moment). Stands x t.history t.issued) (sym is) s in
+    let next = step e.call e.before e.did e.after t.history t.issued happens here lawful in (
+      record { conserved = conserves e.after (after e t).history (after e t).issued next.1; opens = next.0; below = lawful },
+      all_lawful e.after es m' (after e t) rest next.1 b,
+    )
 
-  -- an opening
-  module _ (b : Book) (closed : Closed m') where
-    abbrev opened : Result (ℕ × ℕ) StoreFault → Below
-    opened r = reopening m.state m.disk r m'.state m'.disk
-
-    -- what is found is a ledger, since so is every first part of what stands
-    found_ledger : (x : ℕ × ℕ) → law.Lawful (opened (Ok x)) h → (b' : Book) × HoldsBook m'.state b'
-    found_ledger x l =
-        let low = l.kept x.0 x.1 refl in
-        let high = l.entered x.0 x.1 refl in
-        let some = w.some in
-        let e = w.books.each x.0 (omega (arith, low, some)) high in
-        let all = proper_take x.0 h.entered (safe n m.state m.disk h w.sound).proper in
-        let memory = same_memory m'.state.image.memory (take x.0 h.entered) m'.state.image.whole all (λ i k. l.memory_is x.0 x.1 refl i k) in
-        (e.0, subst (λ f. Holds f e.0) (sym memory) e.1)
-
-    opening : (r : Result (ℕ × ℕ) StoreFault) (a : Answer) → below.Happens (opened r) → AnswersOpening r a m' → Good Reopen a b (Some (opened r))
-    opening (Ok x) a happens (inl (is, _, _)) =
-        let took = kept.step n store.Reopen (below.told_open (Ok x)) (below.moment m.state m.disk None None) (below.moment m'.state m'.disk None None) [] h w.sound happens in
-        let low = took.0.kept x.0 x.1 refl in
-        let high = took.0.entered x.0 x.1 refl in
-        let some = w.some in
-        subst (λ (y : Answer). Good Reopen y b (Some (opened (Ok x)))) (sym is)
-        (good Reopen (Ok (told.Opened x.0 x.1)) b (Some (opened (Ok x)))
-        (λ f k. absurd (let z : ◌≡◌ {A = ℕ} 0 1 = cc in omega arith))
-        took.0
-        (record { sound = took.1; some = omega (arith, low, some); books = books_found x.0 h.entered t.issued high w.books; closed = closed }))
-    opening (Ok x) a happens (inr (is, _, none)) =
-        let took = kept.step n store.Reopen (below.told_open (Ok x)) (below.moment m.state m.disk None None) (below.moment m'.state m'.disk None None) [] h w.sound happens in
-        let found = found_ledger x took.0 in
-        absurd (none found.0 found.1)
-    opening (Err f) a happens (is, _) =
-        let took = kept.step n store.Reopen (below.told_open (Err f)) (below.moment m.state m.disk None None) (below.moment m'.state m'.disk None None) [] h w.sound happens in
-        subst (λ (y : Answer). Good Reopen y b (Some (opened (Err f)))) (sym is)
-        (good Reopen (Err (Store f)) b (Some (opened (Err f)))
-        (λ g k. let z : Store f ≡ g = cc in ap number (sym z) ∙ took.0.only_power f refl)
-        took.0
-        (record { sound = took.1; some = w.some; books = w.books; closed = closed }))
-
-    reopened : (a : Answer) (did : Option Below) → Reopened a m m' did → Good Reopen a b did
-    reopened a did x = subst (λ (y : Option Below). Good Reopen a b y) (sym x.is) (opening x.result a x.happens x.answers)
-
-  -- each call, on a ledger that is on and on one that is off
-  pub step_on : (call : Call) (a : Answer) (b : Book) (did : Option Below) → is_on m ≡ true → HoldsBook m.state b → Works call b a m m' did → Closed m' → Good call a b did
-  step_on (Make c flush) a b did on holds (inl (f, _, _, s)) closed = still (Make c flush) a b did tt refl s
-  step_on (Make c flush) a b did on holds (inr x) closed = committed c flush b a did on holds closed x
-  step_on (Find id) a b did on holds (_, s) closed = still (Find id) a b did tt refl s
-  step_on (Balance account) a b did on holds (_, s) closed = still (Balance account) a b did tt refl s
-  step_on Flush a b did on holds x closed = flushed b a did closed x
-  step_on Truncate a b did on holds x closed = truncated b a did closed x
-  step_on Reopen a b did on holds x closed = reopened b closed a did x
-
-  pub step_off : (call : Call) (a : Answer) (b : Book) (did : Option Below) → Sleeps call a m m' did → Closed m' → Good call a b did
-  step_off (Make c flush) a b did (_, s) closed = still (Make c flush) a b did tt refl s
-  step_off (Find id) a b did (_, s) closed = still (Find id) a b did tt refl s
-  step_off (Balance account) a b did (_, s) closed = still (Balance account) a b did tt refl s
-  step_off Flush a b did (_, s) closed = still Flush a b did tt refl s
-  step_off Truncate a b did (_, s) closed = still Truncate a b did tt refl s
-  step_off Reopen a b did x closed = reopened b closed a did x
-
-  pub step : (call : Call) (a : Answer) (b : Book) (did : Option Below) → TakesPlace call a m m' b did → Closed m' → Good call a b did
-  step call a b did (inl (on, holds, works)) closed = step_on call a b did on holds works closed
-  step call a b did (inr (_, sleeps)) closed = step_off call a b did sleeps closed
+pub conserving : law.CrashSafe → Conserving
+conserving safe m es m' chain = all_lawful m es m' nothing chain tt (all_below es nothing (safe (below m) (all_did es) (below m') (runs_below m es m' chain)))

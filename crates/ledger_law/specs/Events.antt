@@ -1,237 +1,108 @@
--- What happens in a run of a ledger: each call, what it answered, what it made of the ledger, and what it did on the
--- store below.
-use Rattle.std.specs.Prelude.{◌≡◌, ℕ, ◌+◌, Bool, true, false, ◌⊎◌, List, [], ◌∷◌, Some, None, Ok, Err, Option, Result}
+-- What happens in a run of a ledger: each call, what it answered and left, and what it did on the store below.
+use Rattle.std.specs.Prelude.{◌≡◌, ℕ, Bool, List, [], ◌∷◌, ◌++◌, length, true, Ok, Err, Option, Result}
+use Rattle.std.proofs.Common.{inl, inr}
 use Rattle.device.specs.Disk.{Disk}
-use Rattle.device.specs.Trace.{Act}
-use Rattle.image.specs.Calls.{declared}
 use Rattle.transactions.specs.declared.fault.StoreFault.{StoreFault}
-use Rattle.transactions.specs.declared.state.State.{State}
-use Rattle.transactions.specs.declared.token.Token.{Token}
-use Rattle.law.specs.declared.script.Slot.TheVariants.{First}
-use Rattle.law.specs.declared.script.Deed.TheVariants.{Commit}
-use Rattle.law.specs.declared.script.Call.TheVariants as store
-use Rattle.law.specs.Events as below
+use Rattle.transactions.specs.Held as held
+use Rattle.law.specs.Events as store
 use Rattle.book.specs.declared.fault.LedgerFault.{LedgerFault}
-use Rattle.book.specs.declared.fault.LedgerFault.TheVariants.{Store, NotLedger}
 use Rattle.book.specs.declared.records.Entry.{Entry}
-use Rattle.book.specs.Book.{Book}
-use Rattle.book.specs.Rows.{Row, first_fit, issue_rows, move_rows, visit_rows, enrol_rows, drop_rows, collect_rows}
-use Rattle.book.specs.Edits.{Edit, issue_edits, issued_to, move_edits, moved, visit_edits, visited, enrol_edits, enrolled, drop_edits, dropped, collect_edits, collected, front_of}
-use Rattle.changes.specs.Changes.{Prepared}
-use Rattle.ledger.specs.Calls.{HoldsBook, on, power_off, Finds, Balances}
-use Rattle.ledger_law.specs.declared.script.Change.{Change}
-use Rattle.ledger_law.specs.declared.script.Change.TheVariants.{Issue, Transfer, Visit, Enrol, DropTag, Collect}
-use Rattle.ledger_law.specs.declared.script.Call.{Call}
-use Rattle.ledger_law.specs.declared.script.Call.TheVariants.{Make, Find, Balance, Flush, Truncate, Reopen}
-use Rattle.ledger_law.specs.declared.script.Told.{Told}
-use Rattle.ledger_law.specs.declared.script.Told.TheVariants as told
+use Rattle.book.specs.Edits.{make_edits}
+use Rattle.ledger.specs.Sound.{Held}
+use Rattle.ledger.specs.Calls.{Change, OnBook, ByOrdinal, WithFront, issuing, moving, visiting, enrolling, dropping, collecting, Makes, Opens, Issues, Moves, Visits, Enrols, Drops, Collects, Finds, Balances, OnStore, Flushes, Truncates}
+use Rattle.ledger_law.specs.Below.{event, changing, Does, One}
 
--- What a call of a script answers.
-abbrev pub Answer : Type 0
-Answer = Result Told LedgerFault
+-- A run between two calls: a ledger works on its device, or the device lies alone.
+pub data Moment : Type 0 where
+  working : Held → Moment
+  closed : Disk → Moment
 
--- The rows of a change, what it writes, the book after it, and what it issues.
-abbrev pub rows_of : Change → Book → List Row
-rows_of (Issue a amount) b = issue_rows b a amount
-rows_of (Transfer payer payee amount) b = move_rows b payer payee amount
-rows_of (Visit id guard) b = visit_rows b id guard
-rows_of (Enrol id a) b = enrol_rows b id a
-rows_of (DropTag id) b = drop_rows b id
-rows_of (Collect a) b = collect_rows b a
+-- What the store below is then.
+abbrev pub below : Moment → store.Moment
+below (working h) = store.working h.store
+below (closed d) = store.closed d
 
-abbrev pub edits_of : Change → Book → List Edit
-edits_of (Issue a amount) b = issue_edits b a amount
-edits_of (Transfer payer payee amount) b = move_edits b payer payee amount
-edits_of (Visit id guard) b = visit_edits b id guard
-edits_of (Enrol id a) b = enrol_edits b id a
-edits_of (DropTag id) b = drop_edits b id
-edits_of (Collect a) b = collect_edits b a
+-- A call with its arguments and its answer. A tag that is enrolled has 8 bytes.
+pub data Call : Type 0 where
+  make : Result (Unit {0}) LedgerFault → Call
+  opening : Result (ℕ × ℕ) LedgerFault → Call
+  close : Call
+  issue : ℕ → ℕ → Bool → Result ℕ LedgerFault → Call
+  move : ℕ → ℕ → ℕ → Bool → Result ℕ LedgerFault → Call
+  visit : List ℕ → ℕ → Bool → Result ℕ LedgerFault → Call
+  enrol : List ℕ → ℕ → Bool → Result ℕ LedgerFault → Call
+  drop_tag : List ℕ → Bool → Result ℕ LedgerFault → Call
+  collect : ℕ → Bool → Result (ℕ × Entry) LedgerFault → Call
+  find : List ℕ → Result (Option ℕ) LedgerFault → Call
+  balance : ℕ → Result ℕ LedgerFault → Call
+  flush : Result ℕ LedgerFault → Call
+  truncate : Result ℕ LedgerFault → Call
 
-abbrev pub book_after : Change → Book → Book
-book_after (Issue a amount) b = issued_to a amount b
-book_after (Transfer payer payee amount) b = moved payer payee amount b
-book_after (Visit id guard) b = visited id guard b
-book_after (Enrol id a) b = enrolled id a b
-book_after (DropTag id) b = dropped id b
-book_after (Collect a) b = collected a b
-
-abbrev pub issued_by : Change → ℕ
-issued_by (Issue a amount) = amount
-issued_by (Transfer _ _ _) = 0
-issued_by (Visit _ _) = 0
-issued_by (Enrol _ _) = 0
-issued_by (DropTag _) = 0
-issued_by (Collect _) = 0
-
--- What a change, a flush and a truncation are told as.
-abbrev pub told_front : Option Entry → ℕ → Told
-told_front None o = told.Changed o
-told_front (Some x) o = told.Collected o x
-
-abbrev pub told_as : Change → Book → ℕ → Told
-told_as (Issue _ _) b o = told.Changed o
-told_as (Transfer _ _ _) b o = told.Changed o
-told_as (Visit _ _) b o = told.Changed o
-told_as (Enrol _ _) b o = told.Changed o
-told_as (DropTag _) b o = told.Changed o
-told_as (Collect a) b o = told_front (front_of (b.entries a)) o
-
-abbrev pub told_change : Change → Book → Result (ℕ × ℕ) StoreFault → Answer
-told_change c b (Ok x) = Ok (told_as c b x.0)
-told_change c b (Err f) = Err (Store f)
-
-abbrev pub told_flush : Result ℕ StoreFault → Answer
-told_flush (Ok k) = Ok (told.Flushed k)
-told_flush (Err f) = Err (Store f)
-
-abbrev pub told_truncate : Result ℕ StoreFault → Answer
-told_truncate (Ok k) = Ok (told.Truncated k)
-told_truncate (Err f) = Err (Store f)
-
--- The run between two calls.
-pub record Moment : Type 0 where
-  pub fit : Bool
-  pub state : State
-  pub disk : Disk
-
-abbrev pub moment : Bool → State → Disk → Moment
-moment fit s d = record { fit = fit; state = s; disk = d }
-
-abbrev pub is_on : Moment → Bool
-is_on m = on m.fit m.state
-
--- What a call did on the store, as an event of a store's run: a commit of a transaction that had been prepared, a flush,
--- a truncation or an opening.
-abbrev pub Below : Type 0
-Below = below.Event
-
-abbrev pub token : ℕ → Token
-token k = record { number = k }
-
-abbrev pub committing : State → Disk → Bool → Result (ℕ × ℕ) StoreFault → State → Disk → List Act → Below
-committing p d flush r s' e made =
-    record {
-      call = store.With First (Commit flush);
-      answer = below.told_commit r;
-      before = below.moment p d (Some (token (p.log.ordinal + 1))) None;
-      after = below.moment s' e None None;
-      made = made;
-    }
-
-abbrev pub flushing : State → Disk → Result ℕ StoreFault → State → Disk → List Act → Below
-flushing s d r s' e made =
-    record { call = store.Flush; answer = below.told_flush r; before = below.moment s d None None; after = below.moment s' e None None; made = made }
-
-abbrev pub truncating : State → Disk → Result ℕ StoreFault → State → Disk → List Act → Below
-truncating s d r s' e made =
-    record { call = store.Truncate; answer = below.told_truncate r; before = below.moment s d None None; after = below.moment s' e None None; made = made }
-
-abbrev pub reopening : State → Disk → Result (ℕ × ℕ) StoreFault → State → Disk → Below
-reopening s d r s' e =
-    record { call = store.Reopen; answer = below.told_open r; before = below.moment s d None None; after = below.moment s' e None None; made = [] }
-
--- A call, its answer, the ledger before and after it, the book that its memory held before, and what was done below.
+-- A call, the run before and after it, and what it did on the store below.
 pub record Event : Type 0 where
   pub call : Call
-  pub answer : Answer
   pub before : Moment
+  pub did : List store.Event
   pub after : Moment
-  pub book : Book
-  pub did : Option Below
 
--- Nothing was done, and nothing moved.
-pub record Still (m m' : Moment) (did : Option Below) : Type 0 where
-  pub same : m' ≡ m
-  pub none : did ≡ None
+-- A make formats, and then makes its one change.
+abbrev pub DidMake : (d : Disk) (r : Result (Unit {0}) LedgerFault) (k : Held) → Makes d r k → List store.Event → Type 0
+DidMake d (Ok _) k (fit, linked, holds) did =
+    (first rest : List store.Event) × (did ≡ first ++ rest)
+    × One (store.format (Ok tt)) (store.closed d) first (store.working linked.formatted)
+    × Does linked.formatted make_edits true (Ok (1, 52)) k.store linked.changes rest
+DidMake d (Err f) k (off, (g, is, inl formatted)) did = One (store.format (Err g)) (store.closed d) did (store.working k.store)
+DidMake d (Err f) k (off, (g, is, inr (power, linked))) did =
+    (first rest : List store.Event) × (did ≡ first ++ rest)
+    × One (store.format (Ok tt)) (store.closed d) first (store.working linked.formatted)
+    × Does linked.formatted make_edits true (Err g) k.store linked.changes rest
 
--- A change that passes its rows is prepared on the store, and committed.
-pub record Committed (c : Change) (flush : Bool) (b : Book) (a : Answer) (m m' : Moment) (did : Option Below) : Type 0 where
-  pub fits : first_fit (rows_of c b) ≡ None
-  pub prepared : State
-  pub prepares : Prepared m.state (edits_of c b) prepared
-  pub holds : HoldsBook prepared (book_after c b)
-  pub result : Result (ℕ × ℕ) StoreFault
-  pub made : List Act
-  pub is : did ≡ Some (committing prepared m.disk flush result m'.state m'.disk made)
-  pub happens : below.Happens (committing prepared m.disk flush result m'.state m'.disk made)
-  pub answers : a ≡ told_change c b result
-  pub fit : m'.fit ≡ m.fit
+-- An opening opens the store.
+abbrev pub DidOpen : (d : Disk) (r : Result (ℕ × ℕ) LedgerFault) (k : Held) → Opens d r k → List store.Event → Type 0
+DidOpen d (Ok x) k opens did = One (store.opening (Ok x)) (store.closed d) did (store.working k.store)
+DidOpen d (Err f) k (off, inl (g, is, opened)) did = One (store.opening (Err g)) (store.closed d) did (store.working k.store)
+DidOpen d (Err f) k (off, inr none) did = One (store.opening (Ok none.found)) (store.closed d) did (store.working k.store)
 
-abbrev pub Changing : Change → Bool → Book → Answer → Moment → Moment → Option Below → Type 0
-Changing c flush b a m m' did =
-    ((f : LedgerFault) × (first_fit (rows_of c b) ≡ Some f) × (a ≡ Err f) × Still m m' did) ⊎ Committed c flush b a m m' did
+-- A changing call does nothing below where the ledger is off or a row of the book fits.
+abbrev pub DidChange : {A : Type 0} (c : Change) (answers : Result (ℕ × ℕ) StoreFault → Result A LedgerFault → Type 0) (flushed : Bool) (h : Held) (r : Result A LedgerFault) (k : Held) → OnBook c answers flushed h r k → List store.Event → Type 0
+DidChange c answers flushed h r k (inl asleep) did = did ≡ []
+DidChange c answers flushed h r k (inr (inl refused)) did = did ≡ []
+DidChange c answers flushed h r k (inr (inr (x, told, m))) did = Does h.store m.made flushed x k.store m.changes did
 
-pub record Flushed (a : Answer) (m m' : Moment) (did : Option Below) : Type 0 where
-  pub result : Result ℕ StoreFault
-  pub made : List Act
-  pub is : did ≡ Some (flushing m.state m.disk result m'.state m'.disk made)
-  pub happens : below.Happens (flushing m.state m.disk result m'.state m'.disk made)
-  pub answers : a ≡ told_flush result
-  pub fit : m'.fit ≡ m.fit
+-- A flush and a truncation are the store's.
+abbrev pub DidOnStore : {A : Type 0} (does : held.Held → Result A StoreFault → held.Held → Type 0) (call : Result A StoreFault → store.Call) (h : Held) (r : Result A LedgerFault) (k : Held) → OnStore does h r k → List store.Event → Type 0
+DidOnStore does call h r k (inl asleep) did = did ≡ []
+DidOnStore does call h r k (inr (on, fit, (x, told, done))) did = One (call x) (store.working h.store) did (store.working k.store)
 
-pub record Truncated (a : Answer) (m m' : Moment) (did : Option Below) : Type 0 where
-  pub result : Result ℕ StoreFault
-  pub made : List Act
-  pub is : did ≡ Some (truncating m.state m.disk result m'.state m'.disk made)
-  pub happens : below.Happens (truncating m.state m.disk result m'.state m'.disk made)
-  pub answers : a ≡ told_truncate result
-  pub fit : m'.fit ≡ m.fit
-
--- What an opening of the store found is a ledger or is not.
-abbrev pub AnswersOpening : Result (ℕ × ℕ) StoreFault → Answer → Moment → Type 0
-AnswersOpening (Ok x) a m' =
-    ((a ≡ Ok (told.Opened x.0 x.1)) × (m'.fit ≡ true) × ((b : Book) × HoldsBook m'.state b))
-    ⊎ ((a ≡ Err NotLedger) × (is_on m' ≡ false) × ((b : Book) → HoldsBook m'.state b → ⊥))
-AnswersOpening (Err f) a m' = (a ≡ Err (Store f)) × (is_on m' ≡ false)
-
-pub record Reopened (a : Answer) (m m' : Moment) (did : Option Below) : Type 0 where
-  pub result : Result (ℕ × ℕ) StoreFault
-  pub is : did ≡ Some (reopening m.state m.disk result m'.state m'.disk)
-  pub happens : below.Happens (reopening m.state m.disk result m'.state m'.disk)
-  pub answers : AnswersOpening result a m'
-
--- The call of a ledger that is on took place.
-abbrev pub Works : Call → Book → Answer → Moment → Moment → Option Below → Type 0
-Works (Make c flush) b a m m' did = Changing c flush b a m m' did
-Works (Find id) b a m m' did = ((x : Option ℕ) × (a ≡ Ok (told.Found x)) × Finds id m.fit m.state (Ok x)) × Still m m' did
-Works (Balance account) b a m m' did =
-    (((x : ℕ) × (a ≡ Ok (told.Balance x)) × Balances account m.fit m.state (Ok x))
-    ⊎ ((f : LedgerFault) × (a ≡ Err f) × Balances account m.fit m.state (Err f)))
-    × Still m m' did
-Works Flush b a m m' did = Flushed a m m' did
-Works Truncate b a m m' did = Truncated a m m' did
-Works Reopen b a m m' did = Reopened a m m' did
-
--- A ledger that is off answers just that to all but an opening.
-abbrev pub Sleeps : Call → Answer → Moment → Moment → Option Below → Type 0
-Sleeps (Make _ _) a m m' did = (a ≡ Err power_off) × Still m m' did
-Sleeps (Find _) a m m' did = (a ≡ Err power_off) × Still m m' did
-Sleeps (Balance _) a m m' did = (a ≡ Err power_off) × Still m m' did
-Sleeps Flush a m m' did = (a ≡ Err power_off) × Still m m' did
-Sleeps Truncate a m m' did = (a ≡ Err power_off) × Still m m' did
-Sleeps Reopen a m m' did = Reopened a m m' did
-
-abbrev pub TakesPlace : Call → Answer → Moment → Moment → Book → Option Below → Type 0
-TakesPlace call a m m' b did =
-    ((is_on m ≡ true) × HoldsBook m.state b × Works call b a m m' did)
-    ⊎ ((is_on m ≡ false) × Sleeps call a m m' did)
-
--- Between the calls of a ledger no transaction is open, so that nothing is declared.
-abbrev pub Closed : Moment → Type 0
-Closed m = is_on m ≡ true → declared m.state.image ≡ []
-
-abbrev pub Happens : Event → Type 0
-Happens e = TakesPlace e.call e.answer e.before e.after e.book e.did × Closed e.after
+-- The call answered so and led from one moment to the other, and did this below.
+abbrev pub Happens : Call → Moment → List store.Event → Moment → Type 0
+Happens (make r) (closed d) did (working k) = (m : Makes d r k) × DidMake d r k m did
+Happens (opening r) (closed d) did (working k) = (m : Opens d r k) × DidOpen d r k m did
+Happens close (working h) did (closed e) = (e ≡ h.store.disk) × One store.close (store.working h.store) did (store.closed e)
+Happens (issue a amount flushed r) (working h) did (working k) =
+    (m : Issues a amount flushed h r k) × DidChange (issuing a amount) ByOrdinal flushed h r k m did
+Happens (move payer payee amount flushed r) (working h) did (working k) =
+    (m : Moves payer payee amount flushed h r k) × DidChange (moving payer payee amount) ByOrdinal flushed h r k m did
+Happens (visit id guard flushed r) (working h) did (working k) =
+    (m : Visits id guard flushed h r k) × DidChange (visiting id guard) ByOrdinal flushed h r k m did
+Happens (enrol id a flushed r) (working h) did (working k) =
+    (length id ≡ 8) × (m : Enrols id a flushed h r k) × DidChange (enrolling id a) ByOrdinal flushed h r k m did
+Happens (drop_tag id flushed r) (working h) did (working k) =
+    (m : Drops id flushed h r k) × DidChange (dropping id) ByOrdinal flushed h r k m did
+Happens (collect a flushed r) (working h) did (working k) =
+    (m : Collects a flushed h r k) × DidChange (collecting a) (WithFront a h) flushed h r k m did
+Happens (find id r) (working h) did (working k) = Finds id h r × (k ≡ h) × (did ≡ [])
+Happens (balance a r) (working h) did (working k) = Balances a h r × (k ≡ h) × (did ≡ [])
+Happens (flush r) (working h) did (working k) = (m : Flushes h r k) × DidOnStore held.Flushes store.flush h r k m did
+Happens (truncate r) (working h) did (working k) = (m : Truncates h r k) × DidOnStore held.Truncates store.truncate h r k m did
+Happens _ _ _ _ = ⊥
 
 -- The events follow one another, from one moment to another.
 abbrev pub Chain : Moment → List Event → Moment → Type 0
 Chain m [] m' = m' ≡ m
-Chain m (e ∷ es) m' = (e.before ≡ m) × Happens e × Chain e.after es m'
+Chain m (e ∷ es) m' = (e.before ≡ m) × Happens e.call e.before e.did e.after × Chain e.after es m'
 
-abbrev pub calls_of : List Event → List Call
-calls_of [] = []
-calls_of (e ∷ es) = e.call ∷ calls_of es
-
-abbrev pub answers_of : List Event → List Answer
-answers_of [] = []
-answers_of (e ∷ es) = e.answer ∷ answers_of es
+-- All that was done below, in its order.
+abbrev pub all_did : List Event → List store.Event
+all_did [] = []
+all_did (e ∷ es) = e.did ++ all_did es

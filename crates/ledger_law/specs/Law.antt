@@ -1,87 +1,78 @@
--- The law of a ledger: what stands, computed from the events of a run, and what is conserved.
-use Rattle.std.specs.Prelude.{◌≡◌, ℕ, Bool, true, false, cond, List, [], ◌∷◌, ◌++◌, take, Some, None, Ok, Err, Option, sum}
-use Rattle.transactions.specs.declared.state.State.{State}
-use Rattle.law.specs.Events as below
-use Rattle.law.specs.History.{History}
+-- The conservation law of ledgers: what stands, computed from the events of a run, and what holds of each event.
+use Rattle.std.specs.Prelude.{◌≡◌, ℕ, true, List, [], ◌∷◌, ◌++◌, map, take, Some, None, Ok, Err, Option, Result}
+use Rattle.law.specs.Kept.{Entered}
+use Rattle.law.specs.Events as store
 use Rattle.law.specs.Law as law
 use Rattle.book.specs.declared.fault.LedgerFault.{LedgerFault}
 use Rattle.book.specs.Fault.{number}
-use Rattle.book.specs.Book.{Book}
-use Rattle.ledger.specs.Calls.{HoldsBook}
-use Rattle.ledger_law.specs.declared.script.Call.{Call}
-use Rattle.ledger_law.specs.declared.script.Call.TheVariants.{Make, Find, Balance, Flush, Truncate, Reopen}
-use Rattle.ledger_law.specs.declared.script.Told.TheVariants as told
-use Rattle.ledger_law.specs.Events.{Answer, is_on, Event, Below, issued_by}
+use Rattle.book.specs.Conserved.{Conserved}
+use Rattle.ledger.specs.Sound.{Held, is_on}
+use Rattle.ledger_law.specs.Events.{Moment, working, closed, below, Call, make, opening, issue, Event, Chain, all_did}
 
--- The transactions that stand and how many of them are kept, as in the law of a store, and what each of them issued:
--- the amount that its issue call was given, or nothing.
+-- What stands: what is entered on the store below, by its law, and for each of those transactions the amount that its
+-- issue call was given, or 0 where it was another call's. Nothing is known of a ledger until a make of it succeeds.
 pub record Standing : Type 0 where
-  pub history : History
-  pub issued : List ℕ
+  pub history : law.History
+  pub issued : Option (List ℕ)
 
--- What stands after a call, by what it did below.
-abbrev pub history_after : Option Below → History → History
-history_after None h = h
-history_after (Some e) h = law.after_event e h
+abbrev pub nothing : Standing
+nothing = record { history = None; issued = None }
 
--- The commit of a change enters its transaction if it passes its checks, even if power then fails.
-abbrev pub enters : Bool → Option Below → Bool
-enters flush None = false
-enters flush (Some e) = below.does_enter e.before.state e.before.first flush
+-- What is entered after these events of the store, and what they newly enter.
+abbrev pub entered_after : List store.Event → law.History → law.History
+entered_after [] h = h
+entered_after (e ∷ es) h = entered_after es (law.after e h)
 
--- Those found at an opening alone stand then.
-abbrev pub issued_found : Answer → List ℕ → List ℕ
-issued_found (Ok (told.Changed _)) is = is
-issued_found (Ok (told.Collected _ _)) is = is
-issued_found (Ok (told.Found _)) is = is
-issued_found (Ok (told.Balance _)) is = is
-issued_found (Ok (told.Flushed _)) is = is
-issued_found (Ok (told.Truncated _)) is = is
-issued_found (Ok (told.Opened found _)) is = take found is
-issued_found (Err _) is = is
+abbrev pub newly : List store.Event → List Entered
+newly [] = []
+newly (e ∷ es) = law.newly e.call e.before e.done ++ newly es
 
-abbrev pub issued_after : Call → Event → List ℕ → List ℕ
-issued_after (Make c flush) e is = cond (enters flush e.did) (is ++ (issued_by c ∷ [])) is
-issued_after (Find _) e is = is
-issued_after (Balance _) e is = is
-issued_after Flush e is = is
-issued_after Truncate e is = is
-issued_after Reopen e is = issued_found e.answer is
+-- The amount that an issue call was given.
+abbrev pub amount_of : Call → ℕ
+amount_of (issue a amount flushed r) = amount
+amount_of _ = 0
 
-abbrev pub after_event : Event → Standing → Standing
-after_event e t = record { history = history_after e.did t.history; issued = issued_after e.call e t.issued }
+-- What stood already: a make that succeeds begins anew, and one that fails leaves a ledger of which nothing is known. An
+-- opening that finds so many transactions leaves the first that many.
+abbrev pub stood : Call → Option (List ℕ) → Option (List ℕ)
+stood (make (Ok _)) is = Some []
+stood (make (Err _)) is = None
+stood (opening (Ok x)) (Some is) = Some (take x.0 is)
+stood _ is = is
 
--- The memory is a ledger's, and its 64 balances sum to what the standing transactions issued. Each of the 200 cells
--- lies on just one chain, as in every book.
-abbrev pub Conserved : State → List ℕ → Type 0
-Conserved s issued = (b : Book) × HoldsBook s b × (b.issued ≡ sum issued)
+-- And what the call newly enters.
+abbrev pub with_new : ℕ → List Entered → Option (List ℕ) → Option (List ℕ)
+with_new amount new None = None
+with_new amount new (Some is) = Some (is ++ map (λ (x : Entered). amount) new)
 
--- An opening is refused only where power fails.
-abbrev pub OnlyPower : Call → Answer → Type 0
-OnlyPower (Make _ _) a = Unit {0}
-OnlyPower (Find _) a = Unit {0}
-OnlyPower (Balance _) a = Unit {0}
-OnlyPower Flush a = Unit {0}
-OnlyPower Truncate a = Unit {0}
-OnlyPower Reopen a = (f : LedgerFault) → a ≡ Err f → number f ≡ 1
+abbrev pub after : Event → Standing → Standing
+after e t =
+    record { history = entered_after e.did t.history; issued = with_new (amount_of e.call) (newly e.did) (stood e.call t.issued) }
 
--- What is done below keeps the law of the store: an opening finds at least what is kept and at most what stands,
--- and makes exactly that of zeros; a flush, a truncation and a commit with flush leave all kept.
-abbrev pub LawfulBelow : Option Below → History → Type 0
-LawfulBelow None h = Unit {0}
-LawfulBelow (Some e) h = law.Lawful e h
+-- The memory of a ledger that is on conserves what was issued.
+abbrev pub ConservedAt : Moment → Option (List ℕ) → Type 0
+ConservedAt (working h) (Some issued) = is_on h ≡ true → Conserved h.store.state.image.memory issued
+ConservedAt _ _ = Unit {0}
 
--- The law on one event, where so much stood before it.
+-- An opening that power does not cut succeeds.
+abbrev pub OpensLawfully : Call → Option (List ℕ) → Type 0
+OpensLawfully (opening (Err f)) (Some issued) = number f ≡ 1
+OpensLawfully _ _ = Unit {0}
+
+-- The law on one event, where t stood before it. What it did below keeps the law of stores.
 pub record Lawful (e : Event) (t : Standing) : Type 0 where
-  pub conserved : is_on e.after ≡ true → Conserved e.after.state (after_event e t).issued
-  pub opens : OnlyPower e.call e.answer
-  pub store : LawfulBelow e.did t.history
-
--- What stands after these events.
-abbrev pub standing : Standing → List Event → Standing
-standing t [] = t
-standing t (e ∷ es) = standing (after_event e t) es
+  pub conserved : ConservedAt e.after (after e t).issued
+  pub opens : OpensLawfully e.call t.issued
+  pub below : law.AllLawful e.did t.history
 
 abbrev pub AllLawful : List Event → Standing → Type 0
 AllLawful [] t = Unit {0}
-AllLawful (e ∷ es) t = Lawful e t × AllLawful es (after_event e t)
+AllLawful (e ∷ es) t = Lawful e t × AllLawful es (after e t)
+
+-- What is done below is a run of the store.
+abbrev pub RunsBelow : Type 0
+RunsBelow = (m : Moment) (es : List Event) (m' : Moment) → Chain m es m' → store.Chain (below m) (all_did es) (below m')
+
+-- The conservation law of ledgers: it holds of every run.
+abbrev pub Conserving : Type 0
+Conserving = (m : Moment) (es : List Event) (m' : Moment) → Chain m es m' → AllLawful es nothing

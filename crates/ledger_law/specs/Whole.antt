@@ -1,18 +1,28 @@
--- The law entire, of a script of either kind.
-use Rattle.std.specs.Prelude.{◌≡◌, ℕ, List, Result}
+-- A run of a script of either kind.
+use Rattle.std.specs.Prelude.{◌≡◌, ℕ, List}
 use Rattle.device.specs.Disk.{Disk}
-use Rattle.transactions.specs.declared.fault.StoreFault.{StoreFault}
-use Rattle.law.specs.Events as store
-use Rattle.law.specs.Run as store-run
-use Rattle.book.specs.declared.fault.LedgerFault.{LedgerFault}
-use Rattle.ledger.specs.Calls.{from_store}
+use Rattle.law.specs.declared.script.Answer.{Answer as StoreAnswer}
+use Rattle.law.specs.Run as store
+use Rattle.ledger_law.specs.declared.script.Answer.{Answer}
 use Rattle.ledger_law.specs.declared.whole.Script.{Script}
 use Rattle.ledger_law.specs.declared.whole.Script.TheVariants.{Store, Ledger}
-use Rattle.ledger_law.specs.Events.{Answer}
 use Rattle.ledger_law.specs.Run.{Ran}
 
--- A run of a store keeps the law of stores, one of a ledger the law of ledgers; the answers of the other kind stay.
-abbrev pub Entire : Disk → Script → List store.Answer → List Answer → Result ℕ LedgerFault → List store.Answer → List Answer → Disk → Type 0
-Entire d (Store calls) before before' r after after' e =
-    (after' ≡ before') × ((r' : Result ℕ StoreFault) × (r ≡ from_store r') × store-run.Ran d calls.now before r' after e)
-Entire d (Ledger calls) before before' r after after' e = (after ≡ before) × Ran d calls.now before' r after' e
+-- What the caller lends: places for tokens, a buffer that is read into, and room for answers of either kind.
+pub record Lent : Type 0 where
+  pub places : store.Places
+  pub buffer : List ℕ
+  pub store_answers : List StoreAnswer
+  pub ledger_answers : List Answer
+
+abbrev pub lent : store.Places → List ℕ → List StoreAnswer → List Answer → Lent
+lent places buffer answers told = record { places = places; buffer = buffer; store_answers = answers; ledger_answers = told }
+
+-- The script is worked, and what one of the other kind would have used stays.
+abbrev pub Works : Disk → Script → Lent → Disk → ℕ → Lent → Type 0
+Works d (Store calls) l e count l' =
+    (l'.ledger_answers ≡ l.ledger_answers)
+    × store.Ran d calls.now l.places l.buffer l.store_answers e count l'.places l'.buffer l'.store_answers
+Works d (Ledger calls) l e count l' =
+    (l'.places ≡ l.places) × (l'.buffer ≡ l.buffer) × (l'.store_answers ≡ l.store_answers)
+    × Ran d calls.now l.ledger_answers e count l'.ledger_answers

@@ -1,10 +1,11 @@
-// The law over every run of a ledger: what it conserves while power may fail in any call.
+// The conservation law of ledgers, over every run: what a ledger conserves while power may fail in any call.
 
 #![tactic(auto)]
 
+mod deeds;
 mod run;
 mod script;
 mod whole;
 
-pub use script::{Answer, Call, Change, Told};
+pub use script::{Answer, Call};
 pub use whole::{Script, work};

@@ -1,104 +1,93 @@
-// A run: a ledger worked by a script, from a make on.
-ghost use Rattle.std.specs.Prelude.{◌≡◌};
-ghost use Rattle.ledger_law.specs.declared.script.Call.TheVariants.{Make, Find, Balance, Flush, Truncate, Reopen};
-ghost use Rattle.ledger_law.specs.Run.{Ran, Stepped, Worked, moment_of};
+// A run: a script of a ledger's calls worked over a device.
+ghost use Rattle.ledger.specs.Held.{held};
+ghost use Rattle.ledger_law.specs.Events.{working, closed};
+ghost use Rattle.ledger_law.specs.Run.{moment_of, Steps, Worked, Ended, Ran};
 
-use crate::script::{Answer, Call, Change, Told};
-use book::LedgerFault;
+use crate::deeds::deed;
+use crate::script::{Answer, Call};
 use device::Device;
 use ledger::Ledger;
 
-// Makes one change.
-fn change<D: Device>(ledger: &mut Ledger<D>, change: Change, flush: bool) -> Answer
-    ensures { Stepped (Make change flush) (moment_of ledger.old) result (moment_of ledger.new) }
+// A run between two calls: a ledger works on its device, or the device lies alone.
+pub enum Run<D: Device> {
+    Working(Ledger<D>),
+    Closed(D),
+}
+
+// Makes one call of a script on a device that lies alone.
+fn begin_on<D: Device>(device: D, call: Call) -> (Run<D>, Answer)
+    ensures { Steps call (closed (D.Device.disk device)) result.1 (moment_of result.0) }
 {
-    match change {
-        Change::Issue(account, amount) => ledger.issue(account, amount, flush).map(Told::Changed),
-        Change::Transfer(payer, payee, amount) => ledger
-            .transfer(payer, payee, amount, flush)
-            .map(Told::Changed),
-        Change::Visit(id, guard) => ledger.visit(&id, guard, flush).map(Told::Changed),
-        Change::Enrol(id, account) => ledger.enrol(&id, account, flush).map(Told::Changed),
-        Change::DropTag(id) => ledger.drop_tag(&id, flush).map(Told::Changed),
-        Change::Collect(account) => ledger
-            .collect(account, flush)
-            .map(|(ordinal, entry)| Told::Collected(ordinal, entry)),
+    match call {
+        Call::Make => {
+            let (ledger, answer) = Ledger::make(device);
+            (Run::Working(ledger), Answer::Made(answer))
+        }
+        Call::Open => {
+            let (ledger, answer) = Ledger::open(device);
+            (Run::Working(ledger), Answer::Opened(answer))
+        }
+        _ => (Run::Closed(device), Answer::NotMade),
     }
 }
 
-// Closes the ledger, and opens it again on its device.
-fn reopen<D: Device>(ledger: Ledger<D>) -> (Ledger<D>, Answer)
-    ensures { Stepped Reopen (moment_of ledger) result.1 (moment_of result.0) }
+// Makes one call of a script on a ledger that works.
+fn go_on<D: Device>(mut ledger: Ledger<D>, call: Call) -> (Run<D>, Answer)
+    ensures { Steps call (working (held ledger)) result.1 (moment_of result.0) }
 {
-    let (ledger, answer) = Ledger::open(ledger.close());
-    (
-        ledger,
-        answer.map(|(found, strays)| Told::Opened(found, strays)),
-    )
+    match call {
+        Call::Close => (Run::Closed(ledger.close()), Answer::Closed),
+        other => {
+            let answer = deed(&mut ledger, other);
+            (Run::Working(ledger), answer)
+        }
+    }
 }
 
 // Makes one call of a script.
-fn step<D: Device>(ledger: Ledger<D>, call: Call) -> (Ledger<D>, Answer)
-    ensures { Stepped call (moment_of ledger) result.1 (moment_of result.0) }
+fn step<D: Device>(run: Run<D>, call: Call) -> (Run<D>, Answer)
+    ensures { Steps call (moment_of run) result.1 (moment_of result.0) }
 {
-    let mut ledger = ledger;
-    match call {
-        Call::Make(what, flush) => {
-            let answer = change(&mut ledger, what, flush);
-            (ledger, answer)
-        }
-        Call::Find(id) => {
-            let answer = ledger.find(&id).map(Told::Found);
-            (ledger, answer)
-        }
-        Call::Balance(account) => {
-            let answer = ledger.balance(account).map(Told::Balance);
-            (ledger, answer)
-        }
-        Call::Flush => {
-            let answer = ledger.flush().map(Told::Flushed);
-            (ledger, answer)
-        }
-        Call::Truncate => {
-            let answer = ledger.truncate().map(Told::Truncated);
-            (ledger, answer)
-        }
-        Call::Reopen => reopen(ledger),
+    match run {
+        Run::Working(ledger) => go_on(ledger, call),
+        Run::Closed(device) => begin_on(device, call),
     }
 }
 
 // Makes the calls of a script, as far as there is room for answers, and says how many that were.
-fn work_through<D: Device>(
-    ledger: Ledger<D>,
-    calls: &[Call],
-    answers: &mut [Answer],
-) -> (Ledger<D>, usize)
-    ensures { Worked (moment_of ledger) calls.now answers.old result.1 answers.new (moment_of result.0) }
+fn work_through<D: Device>(device: D, calls: &[Call], answers: &mut [Answer]) -> (Run<D>, usize)
+    ensures { Worked (closed (D.Device.disk device)) calls.now answers.old result.1 answers.new (moment_of result.0) }
 {
-    let mut ledger = ledger;
+    let mut run = Run::Closed(device);
     let count = calls.len().min(answers.len());
     // After a `zip` over what is written nothing is known of it, so the answers are written by their place.
     for (i, call) in calls[..count].iter().enumerate() {
-        let (next, answer) = step(ledger, *call);
-        ledger = next;
+        let (next, answer) = step(run, *call);
+        run = next;
         answers[i] = answer;
     }
-    (ledger, count)
+    (run, count)
 }
 
-// Makes a new ledger on the device and works the script on it, as far as there is room for answers. Answers how many
-// calls were made, or why the make was refused. The device is given back.
+// Ends a run: a ledger that still works is closed.
+fn end<D: Device>(run: Run<D>) -> D
+    ensures { Ended (moment_of run) (D.Device.disk result) }
+{
+    match run {
+        Run::Working(ledger) => ledger.close(),
+        Run::Closed(device) => device,
+    }
+}
+
+// Works a script over a device, as far as there is room for answers, and answers how many calls that were. The device
+// is given back, closed.
 pub(crate) fn work_ledger<D: Device>(
     device: D,
     calls: &[Call],
     answers: &mut [Answer],
-) -> (D, Result<usize, LedgerFault>)
-    ensures { Ran (D.Device.disk device) calls.now answers.old result.1 answers.new (D.Device.disk result.0) }
+) -> (D, usize)
+    ensures { Ran (D.Device.disk device) calls.now answers.old (D.Device.disk result.0) result.1 answers.new }
 {
-    let (ledger, made) = Ledger::make(device);
-    if let Err(fault) = made {
-        return (ledger.close(), Err(fault));
-    }
-    let (ledger, count) = work_through(ledger, calls, answers);
-    (ledger.close(), Ok(count))
+    let (run, count) = work_through(device, calls, answers);
+    (end(run), count)
 }

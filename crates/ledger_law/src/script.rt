@@ -1,51 +1,72 @@
-// Scripts of a ledger: the calls that a run makes on it, and what they answer.
+// Scripts of a ledger: the calls that a run makes, and what they answer.
 use book::{Entry, LedgerFault};
 
-// What is changed in the book, each by one transaction.
-#[derive(Clone, Copy)]
-pub enum Change {
-    // An account, and how much is issued to it.
-    Issue(u16, u64),
-    // The payer, the payee and the amount.
-    Transfer(u16, u16, u64),
-    // A tag, and the guard's account.
-    Visit([u8; 8], u16),
-    // A tag, and the account that it is to have.
-    Enrol([u8; 8], u16),
-    DropTag([u8; 8]),
-    // The account whose front entry is taken off.
-    Collect(u16),
-}
-
+// A call of a script.
 #[derive(Clone, Copy)]
 pub enum Call {
-    // A change, flushed or spooled.
-    Make(Change, bool),
-    Find([u8; 8]),
-    Balance(u16),
+    // These two need a device that lies alone, the others a ledger that works on one.
+    Make,
+    Open,
+    Close,
+    Issue {
+        account: u16,
+        amount: u64,
+        flush: bool,
+    },
+    Move {
+        payer: u16,
+        payee: u16,
+        amount: u64,
+        flush: bool,
+    },
+    // Pays 1 from the account of the tag to a guard's.
+    Visit {
+        tag: [u8; 8],
+        guard: u16,
+        flush: bool,
+    },
+    Enrol {
+        tag: [u8; 8],
+        account: u16,
+        flush: bool,
+    },
+    Drop {
+        tag: [u8; 8],
+        flush: bool,
+    },
+    // Takes off the front entry of the account.
+    Collect {
+        account: u16,
+        flush: bool,
+    },
+    Find {
+        tag: [u8; 8],
+    },
+    Balance {
+        account: u16,
+    },
     Flush,
     Truncate,
-    // Closes the ledger and opens it again on its device.
-    Reopen,
 }
 
-// What a call is told as where it is not refused.
-#[derive(Clone, Copy, PartialEq, Eq, Debug)]
-pub enum Told {
+// What a call answers.
+#[derive(Clone, Copy)]
+pub enum Answer {
+    // It did not fit where the run stood, and was not made: no ledger works, or one does already.
+    NotMade,
+    Made(Result<(), LedgerFault>),
+    // How many transactions were found, and how many strays were cleared.
+    Opened(Result<(u64, usize), LedgerFault>),
+    Closed,
     // The ordinal of a change.
-    Changed(u64),
+    Changed(Result<u64, LedgerFault>),
     // The ordinal, and the entry that was taken off.
-    Collected(u64, Entry),
-    // The account that a tag has, if there is such a tag.
-    Found(Option<u16>),
-    Balance(u64),
+    Collected(Result<(u64, Entry), LedgerFault>),
+    // The account that the tag has, if there is such a tag.
+    Found(Result<Option<u16>, LedgerFault>),
+    Balance(Result<u64, LedgerFault>),
     // How many records.
-    Flushed(usize),
-    // How many pages.
-    Truncated(usize),
-    // The number found, and how many strays.
-    Opened(u64, usize),
+    Flushed(Result<usize, LedgerFault>),
+    // How many pages were dirty.
+    Truncated(Result<usize, LedgerFault>),
 }
-
-// What a call of a script answers.
-pub type Answer = Result<Told, LedgerFault>;
