@@ -191,21 +191,24 @@ fn mention_at(sector: &[u8; SECTOR], place: usize, places: usize, serial: u64) -
     })
 }
 
-// The note of what this place of the log holds, which is met too.
+// Notes what this place of the log holds, and meets it. The note is written where it is kept: in an answer it would
+// share its bytes with a fault.
 fn look<D: Device>(
     device: &mut D,
     place: usize,
     places: usize,
     buffer: &mut [u8; SECTOR],
     latest: &mut Latest,
-) -> Result<Note, DeviceFault>
+    note: &mut Note,
+) -> Result<(), DeviceFault>
     requires { place < (D.Device.disk device.old).plate.sectors }
-    ensures { Looks (D.Device.disk device.old) (λ note. Tells (said places place ((D.Device.disk device.old).shows place)) note × (latest.new ≡ met (said places place ((D.Device.disk device.old).shows place)) latest.old)) result (D.Device.disk device.new) }
+    ensures { Looks (D.Device.disk device.old) (λ _. Tells (said places place ((D.Device.disk device.old).shows place)) note.new × (latest.new ≡ met (said places place ((D.Device.disk device.old).shows place)) latest.old)) result (D.Device.disk device.new) }
 {
-    if !fetch(device, place, buffer)? {
-        return Ok(Note::BLANK);
+    *note = Note::BLANK;
+    if fetch(device, place, buffer)? {
+        *note = note_of(buffer, place, places, latest);
     }
-    Ok(note_of(buffer, place, places, latest))
+    Ok(())
 }
 
 // Notes what each place of the log holds, and answers the latest record.
@@ -220,7 +223,7 @@ pub(crate) fn scan<D: Device>(
     let places = notes.len();
     let mut latest = Latest::new();
     for (place, note) in notes.iter_mut().enumerate() {
-        *note = look(device, place, places, buffer, &mut latest)?;
+        look(device, place, places, buffer, &mut latest, note)?;
     }
     Ok(latest)
 }
