@@ -2,6 +2,7 @@
 use Rattle.std.proofs.Common.{◌≡◌, ℕ, ◌-◌, ◌^◌, ◌<◌, ◌≤◌, true, List, [], ◌∷◌, length, get_or, Ok, Err, sym, refl, ap, ◌∙◌, subst, inl, inr, ⊎_elim, rules, lit≤, arith}
 use Rattle.std.proofs.lemmas.Bool.{cases_lt}
 use Rattle.std.proofs.lemmas.List.{get_or_past}
+use Rattle.arrayvec.specs.ArrayVec.{array_vec_len}
 use Rattle.device.specs.Disk.{Disk}
 use Rattle.device.specs.Trace.{Done}
 use Rattle.journal.specs.Log.{log}
@@ -17,11 +18,9 @@ use Rattle.image.specs.Runs.{run, Declared, joined}
 use Rattle.image.specs.Calls.{declared}
 use Rattle.image.proofs.Alone.{runs_are_joined}
 use Rattle.transactions.specs.declared.state.State.{State}
-use Rattle.arrayvec.specs.ArrayVec.{array_vec_len}
 use Rattle.transactions.specs.State.{StandsAt, Idle, OpenOn}
 use Rattle.transactions.specs.Pages.{Tabulates, Writable}
-use Rattle.transactions.proofs.Tabling.{off_stands, opened_stands}
-use Rattle.std.proofs.lemmas.Result.{err_from_is_err_and}
+use Rattle.transactions.proofs.Tabling.{opened_stands}
 use Rattle.transactions.proofs.making.open_into.Goals as goal
 
 not_err : {A : Type 0} (x : A) (f : RecoveryFault) → Ok x ≡ Err f → ⊥
@@ -69,13 +68,13 @@ set_on d e r memory s (inr (n, divides, inr (m, restart, (finds, cleared, tabled
     }
 
 -- the table that was found is that of the store
-found_stands : (s' : State) (d e : Disk) (r : Recovery) (memory : List ℕ) → Opens d (Ok r) e memory → StandsAt s'.log (d.plate.sectors - 64) r.low r.last r.ordinal
-    → array_vec_len s'.spool ≡ 0 → s'.pages ≡ r.pages → Writable s' × Tabulates s' e.shows
-found_stands s' d e r memory (inl (k, err, _, _)) log empty pages = absurd (not_err r (Size k) err)
-found_stands s' d e r memory (inr (n, divides, inl h)) log empty pages = absurd h
-found_stands s' d e r memory (inr (n, divides, inr (m, restart, (finds, cleared, tabled)))) log empty pages =
-    opened_stands n s' m e r.ordinal r.strays r.low r.last memory r.pages (omega (arith, divides.least)) restart.quiet finds cleared tabled
-    (record { places_is = omega (arith, divides.homes, log.places_is); low_is = log.low_is; last_is = log.last_is; ordinal_is = log.ordinal_is })
+found_stands : (d e : Disk) (r : Recovery) (memory : List ℕ) (s : State) → Opens d (Ok r) e memory → StandsAt s.log (d.plate.sectors - 64) r.low r.last r.ordinal → array_vec_len s.spool ≡ 0
+    → s.pages ≡ r.pages → Writable s × Tabulates s e.shows
+found_stands d e r memory s (inl (k, err, _, _)) log empty pages = absurd (not_err r (Size k) err)
+found_stands d e r memory s (inr (n, divides, inl h)) log empty pages = absurd h
+found_stands d e r memory s (inr (n, divides, inr (m, restart, (finds, cleared, tabled)))) log empty pages =
+    opened_stands n s m e r.ordinal r.strays r.low r.last memory r.pages (omega (arith, divides.least)) restart.quiet finds cleared tabled
+    record { places_is = omega (arith, log.places_is, divides.homes); low_is = log.low_is; last_is = log.last_is; ordinal_is = log.ordinal_is }
     empty pages
 
 pub invariant_of-state-2 : goal.invariant_of-state-2
@@ -90,17 +89,18 @@ invariant_of-state-4 g c =
     let b = found_bounds (g.D.Device.disk c.args.device.now) (g.D.Device.disk c.open_log.new.device) c.in_ok-found.found c.open_log.new.memory c.in_ok-found.ensures.opens in
     record { bounded = omega (arith, b.0, c.requires.idle.empty); numbered = omega (arith, b.1) }
 
-pub returns : goal.returns
-returns g c =
+pub returns-clause-opened : goal.returns-clause-opened
+returns-clause-opened g c =
     let d = g.D.Device.disk c.args.device.now in
-    let e = g.D.Device.disk c.open_log.new.device in
     let k = c.keep.ensures in
-    let r = c.in_ok-found.found in
-    let stands : StandsAt _ (d.plate.sectors - 64) r.low r.last r.ordinal =
-      record { places_is = ap (λ (j : ℕ). j - 64) c.sectors-sectors.ensures; low_is = refl; last_is = refl; ordinal_is = refl } in
-    record {
-      opened =
-          set_on d e r c.open_log.new.memory _ c.in_ok-found.ensures.opens k.memory stands refl
-          (record { free = c.requires.idle.free; clean = k.clean; empty = c.requires.idle.empty; before = k.before ∙ sym k.memory });
-      table = λ _. found_stands _ d e r c.open_log.new.memory c.in_ok-found.ensures.opens stands c.requires.idle.empty refl;
-    }
+    set_on d (g.D.Device.disk c.open_log.new.device) c.in_ok-found.found c.open_log.new.memory _ c.in_ok-found.ensures.opens k.memory
+    (record { places_is = ap (λ (j : ℕ). j - 64) c.sectors-sectors.ensures; low_is = refl; last_is = refl; ordinal_is = refl }) refl
+    (record { free = c.requires.idle.free; clean = k.clean; empty = c.requires.idle.empty; before = k.before ∙ sym k.memory })
+
+pub returns-clause-table : goal.returns-clause-table
+returns-clause-table g c =
+    λ _.
+    let d = g.D.Device.disk c.args.device.now in
+    found_stands d (g.D.Device.disk c.open_log.new.device) c.in_ok-found.found c.open_log.new.memory _ c.in_ok-found.ensures.opens
+    (record { places_is = ap (λ (j : ℕ). j - 64) c.sectors-sectors.ensures; low_is = refl; last_is = refl; ordinal_is = refl })
+    c.requires.idle.empty refl
