@@ -29,29 +29,18 @@ static inline Fault refuse_from(Fault row, uint64_t value, unsigned origin) {
     return row;
 }
 
-// Copies a few bytes: most stretches are of 2, 8, 10 or 24.
+// Most stretches are of one field, of two beside each other, or a cell.
 static inline void copy_few(uint8_t *to, const uint8_t *from, unsigned n) {
-    if (n >= 8) {
-        unsigned i = 0;
-        do { memcpy(to + i, from + i, 8); i += 8; } while (i + 8 <= n);
-        memcpy(to + n - 8, from + n - 8, 8);
-        return;
-    }
-    if (n >= 2) {
-        memcpy(to, from, 2);
-        if (n > 4) memcpy(to + 2, from + 2, 2);
-        memcpy(to + n - 2, from + n - 2, 2);
-        if (n > 6) to[4] = from[4];
-        return;
-    }
-    if (n) *to = *from;
+    if (LIKELY(n == 8)) memcpy(to, from, 8);
+    else if (n == 2) memcpy(to, from, 2);
+    else if (n == 10) memcpy(to, from, 10);
+    else if (n == 24) memcpy(to, from, 24);
+    else memcpy(to, from, n);
 }
 
 static inline void zero_few(uint8_t *to, unsigned n) {
-    uint64_t zero = 0;
-    if (n < 8) { for (unsigned i = 0; i < n; i++) to[i] = 0; return; }
-    for (unsigned i = 0; i + 8 <= n; i += 8) memcpy(to + i, &zero, 8);
-    memcpy(to + n - 8, &zero, 8);
+    if (LIKELY(n <= 24)) memset(to, 0, 24);
+    else memset(to, 0, 96);
 }
 
 typedef struct {

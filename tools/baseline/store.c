@@ -150,13 +150,12 @@ static Fault store_begin(Store *s, uint64_t *token) {
 }
 
 static inline Fault shown(const Store *s, uint64_t token) {
-    if (!s->on) return REFUSE(1, 0);
-    if (!s->busy || token != s->ordinal + 1) return REFUSE(10, token);
-    return OK;
+    if (LIKELY(s->on & s->busy && token == s->ordinal + 1)) return OK;
+    return s->on ? REFUSE(10, token) : REFUSE(1, 0);
 }
 
 static inline Fault in_memory(size_t start, size_t size) {
-    if (size == 0 || start >= MEMORY || size > MEMORY - start) return REFUSE(11, start);
+    if (UNLIKELY(size - 1 >= MEMORY || start > MEMORY - size)) return REFUSE(11, start);
     return OK;
 }
 
@@ -169,6 +168,7 @@ static Fault store_set_range(Store *s, uint64_t token, size_t start, size_t size
     TRY(in_memory(start, size));
     unsigned end = start + size, held = s->runs_held, i = 0;
     while (i < held && s->runs[i].end < start) i++;
+    s->run = i;
     unsigned j = i;
     while (j < held && s->runs[j].start <= end) j++;
     if (i == j) {
@@ -198,15 +198,14 @@ static Fault store_set_range(Store *s, uint64_t token, size_t start, size_t size
 static Fault store_write(Store *s, uint64_t token, size_t start, const void *bytes, size_t size) {
     TRY(shown(s, token));
     TRY(in_memory(start, size));
-    for (unsigned i = 0; i < s->runs_held; i++) {
-        if (start < s->runs[i].start) break;
-        if (start < s->runs[i].end) {
-            if (start + size > s->runs[i].end) return REFUSE(13, s->runs[i].end);
-            copy_few(s->memory + start, bytes, size);
-            return OK;
-        }
-    }
-    return REFUSE(13, start);
+    // Most bytes are written just after they were declared.
+    unsigned held = s->runs_held, i = s->run;
+    if (UNLIKELY(i >= held || start < s->runs[i].start || start >= s->runs[i].end))
+        for (i = 0; i < held && s->runs[i].end <= start; i++) {}
+    if (UNLIKELY(i == held || start < s->runs[i].start)) return REFUSE(13, start);
+    if (UNLIKELY(start + size > s->runs[i].end)) return REFUSE(13, s->runs[i].end);
+    copy_few(s->memory + start, bytes, size);
+    return OK;
 }
 
 static Fault store_read(const Store *s, size_t start, void *into, size_t size) {

@@ -21,6 +21,7 @@ typedef struct {
     Bench *device;
     uint8_t on, busy;
     uint8_t runs_held, spooled;
+    uint8_t run;            // where the last stretch was declared
     uint32_t places;
     uint32_t place;         // the place of the next serial
     uint64_t low, last, ordinal;

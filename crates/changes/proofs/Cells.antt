@@ -2,7 +2,8 @@
 use Rattle.std.proofs.Common.{◌≡◌, ℕ, suc, ◌+◌, ◌-◌, ◌*◌, ◌/◌, ◌<◌, List, [], ◌∷◌, ◌++◌, length, replicate, set, sym, refl, ap, ◌∙◌, subst, append_assoc, arith, length-append}
 use Rattle.std.proofs.Math.Nat.{mod-eq_of_lt}
 use Rattle.std.proofs.lemmas.Bool.{ne_eqb}
-use Rattle.std.proofs.lemmas.List.{set_at, replicate-append-replicate}
+use Rattle.std.proofs.lemmas.List.{set_at, append-nil, replicate-append-replicate}
+use borrow.Rule.Slice.PartMut.{put_mid}
 use Rattle.record.specs.Fields.{digits}
 use Rattle.book.specs.Layout.{head_at, whole}
 use Rattle.book.specs.Book.{free_cell}
@@ -68,6 +69,11 @@ pub linking_ends : (i : ℕ) (bytes : List ℕ) → i ≡ 199 → Linking i byte
 linking_ends i bytes e l =
     let m = subst (λ (k : ℕ). Linking k bytes) e l in
     m.here ∙ ap (λ (zs : List ℕ). m.front ++ zs) (sym last_cell) ∙ m.rest
+
+-- A cell's fields written over zeros.
+pub laid_cell : (f d content : List ℕ) (next kind : ℕ) → f ≡ digits 2 next → d ≡ content → put_mid 4 20 (set (f ++ replicate 22 0) 2 kind) d ≡ digits 2 next ++ (kind ∷ 0 ∷ content)
+unfolding digits
+laid_cell f d content next kind e k = rw (e, k) (rw append-nil refl)
 
 -- the head of the free chain as bytes
 pub head_edit : edit 8 (1 ∷ 0 ∷ []) ≡ edit (head_at 0) (digits 2 1)

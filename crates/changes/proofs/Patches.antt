@@ -1,14 +1,14 @@
--- One patch declared and written, and many.
-use Rattle.std.proofs.Common.{◌≡◌, ℕ, ◌+◌, ◌<◌, ◌≤◌, min, max, Bool, true, false, cond, ltb, ◌⊎◌, List, [], ◌∷◌, map, length, get_or, drop, Some, None, Ok, Err, Option, Result, sym, refl, ap, ◌∙◌, subst, inl, inr, arith}
+-- Edits declared and written, one and many.
+use Rattle.std.proofs.Common.{◌≡◌, ℕ, ◌+◌, ◌<◌, ◌≤◌, min, max, Bool, true, false, cond, ltb, ◌⊎◌, List, [], ◌∷◌, ◌++◌, length, get_or, Some, None, Ok, Err, Option, Result, sym, refl, ap, ◌∙◌, subst, inl, inr, arith}
 use Rattle.std.proofs.lemmas.Bool.{eq-eqb}
-use Rattle.std.proofs.lemmas.List.{length-map, get_or-map, drop_more}
 use Rattle.journal.specs.Memory.{overlaid}
+use Rattle.device.specs.Disk.{Disk}
 use Rattle.image.specs.declared.run.Run.{Run}
 use Rattle.image.specs.declared.run.ImageFault.TheVariants.{Range, Runs as Too-many, Undeclared}
 use Rattle.image.specs.declared.state.Image.{Image}
 use Rattle.image.specs.Runs.{run, joined, Declared}
 use Rattle.image.specs.Calls.{declared, DeclaredMore, Written}
-use Rattle.image.proofs.Joining.{joined_covers}
+use Rattle.image.proofs.Alone.{runs_are_joined}
 use Rattle.transactions.specs.declared.fault.StoreFault.{StoreFault}
 use Rattle.transactions.specs.declared.log.Log.{Log}
 use Rattle.transactions.specs.declared.state.State.{State}
@@ -19,8 +19,6 @@ use Rattle.transactions.specs.Rows.{first_fit, busy, token_rows}
 use Rattle.transactions.proofs.Plans.{on_past}
 use Rattle.transactions.specs.State.{MadeOf}
 use Rattle.book.specs.Edits.{Edit, edit, edited, declaring}
-use Rattle.plans.specs.declared.plan.Patch.{Patch}
-use Rattle.plans.specs.Plans.{edit_of}
 use Rattle.changes.specs.Changes.{Prepared, PutIn, Changes}
 use Rattle.changes.specs.Steps.{Underway, Put, Puts, Finishes, Performs}
 
@@ -57,7 +55,7 @@ set_passes s m number start size (Err f) u few some inside (inr (Range at, fits,
     out (inl e) = omega arith
     out (inr h) = omega arith
 set_passes s m number start size (Err f) u few some inside (inr (Too-many at, fits, is, refused, made)) =
-    absurd (omega (arith, refused.many, joined_length start (start + size) (declared s.image)))
+    absurd (omega (arith, refused.many, ap (λ (rs : List Run). length rs) (runs_are_joined start (start + size) s.image.runs refused.runs (omega (arith, some)) refused.declares), joined_length start (start + size) (declared s.image)))
 set_passes s m number start size (Err f) u few some inside (inr (Undeclared at, fits, is, never, made)) = absurd never
 
 pub err_ok : (f : StoreFault) → ◌≡◌ {A = Result (Unit {0}) StoreFault} (Err f) (Ok tt) → ⊥
@@ -105,7 +103,7 @@ pub put_done : (h m p : Held) (number start : ℕ) (bytes : List ℕ) (a : Unit 
 put_done h m p number start bytes a r u few some inside set write =
     let x = (set_passes h.state m.state number start (length bytes) (Ok a) u few some inside set.0).1 in
     let all : (i : ℕ) → start ≤ i → i < start + length bytes → Declared (declared m.state.image) i =
-    λ i low high. subst (λ (rs : List Run). Declared rs i) (sym x.more.runs) (joined_covers start (start + length bytes) (declared h.state.image) i (inl (low, high))) in
+    λ i low high. x.more.declares.all i (inl (low, high)) in
     let y = write_passes m.state p.state number start bytes r (still_underway h.state m.state number u x.made) all some inside write.0 in
     let wrote = subst (λ (z : Result (Unit {0}) StoreFault). WritesRange number start bytes m z p) y.0 write in
     (y.0, both h.state m.state p.state start bytes x y.1, (m, p, set, wrote, refl))
@@ -118,79 +116,68 @@ put_done h m p number start bytes a r u few some inside set write =
           log = y.made.log_is ∙ x.made.log_is;
           spool = y.made.spool_is ∙ x.made.spool_is;
           before = y.written.before ∙ x.more.before;
-          runs = y.written.runs ∙ x.more.runs;
+          runs = y.written.runs ∙ runs_are_joined start (start + length bytes) s.image.runs (declared m.image) (omega (arith, x.more.in_range.0)) x.more.declares;
           memory = λ i. y.written.memory i ∙ ap (λ (l : List ℕ). overlaid start bytes i (get_or l i 0)) x.more.memory;
         }
 
--- nothing is put in, or a first patch and then the others
-pub put_none : (s : State) → Put s [] s
-put_none s = record { on = refl; busy = refl; log = refl; spool = refl; before = refl; runs = refl; memory = λ i. refl }
+-- edits one after the other, in two parts
+declaring_append : (xs ys : List Edit) (rs : List Run) → declaring (xs ++ ys) rs ≡ declaring ys (declaring xs rs)
+declaring_append [] ys rs = refl
+declaring_append (x ∷ xs) ys rs = declaring_append xs ys (joined x.start (x.start + length x.bytes) rs)
 
-pub put_next : (s m p : State) (x : Edit) (xs : List Edit) → Put s (x ∷ []) m → Put m xs p → Put s (x ∷ xs) p
-put_next s m p x xs a b =
+edited_append : (xs ys : List Edit) (i v : ℕ) → edited (xs ++ ys) i v ≡ edited ys i (edited xs i v)
+edited_append [] ys i v = refl
+edited_append (x ∷ xs) ys i v = edited_append xs ys i (overlaid x.start x.bytes i v)
+
+declaring_length : (xs : List Edit) (rs : List Run) → length (declaring xs rs) ≤ length xs + length rs
+declaring_length [] rs = omega arith
+declaring_length (x ∷ xs) rs =
+    let to = x.start + length x.bytes in
+    omega (arith, declaring_length xs (joined x.start to rs), joined_length x.start to rs)
+
+put_both : (s m p : State) (xs ys : List Edit) → Put s xs m → Put m ys p → Put s (xs ++ ys) p
+put_both s m p xs ys a b =
     record {
       on = b.on ∙ a.on;
       busy = b.busy ∙ a.busy;
       log = b.log ∙ a.log;
       spool = b.spool ∙ a.spool;
       before = b.before ∙ a.before;
-      runs = b.runs ∙ ap (λ (rs : List Run). declaring xs rs) a.runs;
-      memory = λ i. b.memory i ∙ ap (λ (v : ℕ). edited xs i v) (a.memory i);
+      runs = b.runs ∙ ap (λ (rs : List Run). declaring ys rs) a.runs ∙ sym (declaring_append xs ys (declared s.image));
+      memory = λ i. b.memory i ∙ ap (λ (v : ℕ). edited ys i v) (a.memory i) ∙ sym (edited_append xs ys i (get_or s.image.memory i 0));
     }
 
-pub put_in_next : (number : ℕ) (h m p : Held) (x : Edit) (xs : List Edit) → PutIn number (x ∷ []) h m → PutIn number xs m p → PutIn number (x ∷ xs) h p
-put_in_next number h m p x xs (set, put, sets, writes, same) rest =
-    (set, put, sets, writes, subst (λ (q : Held). PutIn number xs q p) same rest)
+put_in_append : (number : ℕ) (h m p : Held) (xs ys : List Edit) → PutIn number xs h m → PutIn number ys m p → PutIn number (xs ++ ys) h p
+put_in_append number h m p [] ys same b = subst (λ (q : Held). PutIn number ys q p) same b
+put_in_append number h m p (x ∷ xs) ys (set, put, sets, writes, a) b = (set, put, sets, writes, put_in_append number put m p xs ys a b)
 
-pub made_next : (number : ℕ) (h m p : Held) (x : Edit) (xs : List Edit) → Made number (x ∷ []) h m → Made number xs m p → Made number (x ∷ xs) h p
-made_next number h m p x xs a b = (put_next h.state m.state p.state x xs a.0 b.0, put_in_next number h m p x xs a.1 b.1)
+made_both : (number : ℕ) (h m p : Held) (xs ys : List Edit) → Made number xs h m → Made number ys m p → Made number (xs ++ ys) h p
+made_both number h m p xs ys a b = (put_both h.state m.state p.state xs ys a.0 b.0, put_in_append number h m p xs ys a.1 b.1)
 
-pub made_none : (number : ℕ) (h : Held) → Made number [] h h
-made_none number h = (put_none h.state, refl)
+-- What is put in after something else is put in beside it; zs is all of it.
+pub puts_then : (h m p : Held) (number a b : ℕ) (xs ys zs : List Edit) (v : Unit {0}) (r : Result (Unit {0}) StoreFault) → length xs ≤ a → xs ++ ys ≡ zs
+    → Puts number a xs h (Ok v) m → Puts number b ys m r p → Puts number (a + b) zs h r p
+puts_then h m p number a b xs ys zs v r long is first second u few =
+    let one = first u (omega arith) in
+    let x = one.1 in
+    let still : Underway m.state number = record { on = x.on ∙ u.on; busy = x.busy ∙ u.busy; fits = u.fits ∙ sym (ap (λ (l : Log). l.ordinal + 1) x.log) } in
+    let e = ap (λ (rs : List Run). length rs) x.runs in
+    let y = second still (omega (arith, e, declaring_length xs (declared h.state.image))) in
+    let all = subst (λ (l : List Edit). Made number l h p) is (made_both number h m p xs ys (x, one.2) (y.1, y.2)) in
+    (y.0, all.0, all.1)
 
--- So far all but the rest was put in.
-pub record Far (h : Held) (number : ℕ) (all rest : List Edit) (m : Held) : Type 0 where
-  pub underway : Underway m.state number
-  pub few : length (declared m.state.image) + length rest ≤ length (declared h.state.image) + length all
-  pub so : (p : Held) → Made number rest m p → Made number all h p
+-- room for more is room for less, under whose name ever the edits go
+pub puts_among : (h p : Held) (number a b : ℕ) (xs ys : List Edit) (r : Result (Unit {0}) StoreFault) → a ≤ b → xs ≡ ys → Puts number a xs h r p → Puts number b ys h r p
+puts_among h p number a b xs ys r fewer is puts u few =
+    let x = puts u (omega arith) in
+    let all = subst (λ (l : List Edit). Made number l h p) is (x.1, x.2) in
+    (x.0, all.0, all.1)
 
-abbrev pub Putting : Held → ℕ → List Edit → List Edit → Held → Type 0
-Putting h number all rest m = Underway h.state number → length (declared h.state.image) + 5 < 17 → Far h number all rest m
-
-pub putting_starts : (h : Held) (number : ℕ) (all : List Edit) → Putting h number all all h
-putting_starts h number all u few = record { underway = u; few = omega arith; so = λ p k. k }
-
--- the next patch is not refused
-pub putting_takes : (h m p : Held) (number : ℕ) (all left rest : List Edit) (x y : Edit) (r : Result (Unit {0}) StoreFault)
-    → length all ≤ 5 → left ≡ x ∷ rest → y ≡ x → Putting h number all left m → Puts number 1 (y ∷ []) m r p
-    → Underway h.state number → length (declared h.state.image) + 5 < 17 → (r ≡ Ok tt) × Far h number all rest p
-putting_takes h m p number all left rest x y r short next same w puts u few =
-    let far = subst (λ (l : List Edit). Far h number all l m) next (w u few) in
-    let done = subst (λ (z : Edit). Puts number 1 (z ∷ []) m r p) same puts far.underway (omega (arith, far.few)) in
-    (done.0, farther far (done.1, done.2))
-  where
-    farther : Far h number all (x ∷ rest) m → Made number (x ∷ []) m p → Far h number all rest p
-    farther far q =
-        record {
-          underway = record { on = q.0.on ∙ far.underway.on; busy = q.0.busy ∙ far.underway.busy; fits = far.underway.fits ∙ sym (ap (λ (l : Log). l.ordinal + 1) q.0.log) };
-          few =
-              let e = ap (λ (rs : List Run). length rs) q.0.runs in
-              omega (arith, e, joined_length x.start (x.start + length x.bytes) (declared m.state.image), far.few);
-          so = λ z k. far.so z (made_next number m p z x rest q k);
-        }
-
-pub putting_ends : (h m : Held) (number : ℕ) (all left : List Edit) (r : Result (Unit {0}) StoreFault) → left ≡ [] → r ≡ Ok tt → Putting h number all left m → Puts number 5 all h r m
-putting_ends h m number all left r none is w u few =
-    let made = (subst (λ (l : List Edit). Far h number all l m) none (w u few)).so m (made_none number m) in
-    (is, made.0, made.1)
-
--- the next of a plan's edits, by its patch; ys is the list by another name
-pub next_edit : (xs ys : List Patch) (i : ℕ) (x : Patch) → x ≡ get_or xs i x → xs ≡ ys → i < length xs
-    → drop i (map edit_of ys) ≡ edit_of x ∷ drop (i + 1) (map edit_of ys)
-next_edit xs ys i x here same h =
-    let there : i < length (map edit_of xs) = simp length-map h in
-    subst (λ (zs : List Patch). drop i (map edit_of zs) ≡ edit_of x ∷ drop (i + 1) (map edit_of zs)) same
-    (drop_more (map edit_of xs) i (edit_of x) there ∙ ap (λ (y : Edit). y ∷ drop (i + 1) (map edit_of xs)) (get_or-map edit_of xs i x (edit_of x) h ∙ ap edit_of (sym here)))
+-- what comes after is not refused
+pub never_refused : (h m p : Held) (number a b : ℕ) (xs ys : List Edit) (v : Unit {0}) (f : StoreFault) → length xs ≤ a
+    → Puts number a xs h (Ok v) m → Puts number b ys m (Err f) p → Underway h.state number → length (declared h.state.image) + (a + b) < 17 → ⊥
+never_refused h m p number a b xs ys v f long first second u few =
+    err_ok f (puts_then h m p number a b xs ys (xs ++ ys) v (Err f) long refl first second u few).0
 
 -- What was begun, put in and committed is a change.
 pub change_made : (h m p k : Held) (t : Token) (xs : List Edit) (flush : Bool) (put : Result (Unit {0}) StoreFault) (r : Result (ℕ × ℕ) StoreFault)
@@ -216,16 +203,6 @@ change_made h m p k t xs flush put r begins puts finishes clean =
           runs = q.runs ∙ ap (λ (rs : List Run). declaring xs rs) none;
           memory = λ i. q.memory i ∙ ap (λ (x : Image). edited xs i (get_or x.memory i 0)) made.image_is;
         }
-
--- two patches
-pub both_put : (h m p : Held) (number : ℕ) (x y : Edit) (xs : List Edit) (a : Unit {0}) (r : Result (Unit {0}) StoreFault) → x ∷ y ∷ [] ≡ xs
-    → Puts number 1 (x ∷ []) h (Ok a) m → Puts number 1 (y ∷ []) m r p → Puts number 5 xs h r p
-both_put h m p number x y xs a r is first second u few =
-    let all = x ∷ y ∷ [] in
-    let one = putting_takes h h m number all all (y ∷ []) x x (Ok a) (omega arith) refl refl (putting_starts h number all) first in
-    let two = putting_takes h m p number all (y ∷ []) [] y y r (omega arith) refl refl (λ u' few'. (one u' few').1) second u few in
-    let made = subst (λ (zs : List Edit). Made number zs h p) is (two.1.so p (made_none number p)) in
-    (two.0, made.0, made.1)
 
 -- Begun, put in and committed.
 pub performed : (h m p k : Held) (t : Token) (xs : List Edit) (flush : Bool) (put : Result (Unit {0}) StoreFault) (r : Result (ℕ × ℕ) StoreFault)

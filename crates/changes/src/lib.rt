@@ -4,6 +4,7 @@
 
 mod linking;
 mod performing;
+mod planned;
 mod putting;
 
 pub use performing::{link_cells, perform};

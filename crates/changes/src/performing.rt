@@ -6,7 +6,7 @@ ghost use Rattle.transactions.specs.Held.{held};
 ghost use Rattle.changes.specs.Steps.{edits_in, Puts, Finishes, Performs};
 
 use crate::linking::put_links;
-use crate::putting::put_all;
+use crate::planned::put_plan;
 use device::Device;
 use plans::Plan;
 use transactions::{Store, StoreFault, Token};
@@ -23,7 +23,7 @@ fn put_work<D: Device>(store: &mut Store<D>, token: &Token, work: Work) -> Resul
     ensures device { store.new.device ≡ store.old.device }
 {
     match work {
-        Work::Plan(plan) => put_all(store, token, plan),
+        Work::Plan(plan) => put_plan(store, token, plan),
         Work::Links => put_links(store, token),
     }
 }

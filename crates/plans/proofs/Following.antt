@@ -15,6 +15,12 @@ content_read m n kind content h long small whole =
     let t : Stands f (cell_at n + 4) content = subst (λ (a : ℕ). Stands f a content) at s in
     ap (λ (k : ℕ). take k (drop (cell_at n + 4) m)) (sym long) ∙ stands_part m content (cell_at n + 4) t (omega arith)
 
+-- A walk comes to this record: the index leads to its cell, where its content stands in these bytes.
+pub record Ahead {X : Type 0} (content : X → List ℕ) (fits : X → Type 0) (bytes : List ℕ) (n : ℕ) (x : At X) : Type 0 where
+  pub number : n ≡ x.number
+  pub fit : fits x.item
+  pub stands : content x.item ≡ bytes
+
 module _ {X : Type 0} (kind : ℕ) (content : X → List ℕ) (fits : X → Type 0) where
   pub same_first : (xs : List (At X)) → first_of (cells_with kind content xs) ≡ first_of (cells_with 0 (λ _. []) xs)
   same_first [] = refl
@@ -33,6 +39,15 @@ module _ {X : Type 0} (kind : ℕ) (content : X → List ℕ) (fits : X → Type
     first_content : (link n : ℕ) (x : At X) (xs : List (At X)) → Leads kind content fits (byte_in m) link (x ∷ xs) → n ≡ x.number → content x.item ≡ take 20 (drop (cell_at n + 4) m)
     first_content link n x xs h e =
         sym (content_read m x.number kind (content x.item) h.0.2 (long x.item h.1.0) h.0.1.1 whole) ∙ ap (λ (i : ℕ). take 20 (drop (cell_at i + 4) m)) (sym e)
+
+    pub leads_none : (link n : ℕ) → Leads kind content fits (byte_in m) link [] → link + 2 ≤ 6144 → n ≡ field link 2 m → n ≡ 0
+    leads_none link n h k e = e ∙ stands_index m link [] h.0 (omega arith)
+
+    pub leads_to : (link n : ℕ) (x : At X) (xs : List (At X)) → Leads kind content fits (byte_in m) link (x ∷ xs) → link + 2 ≤ 6144 → n ≡ field link 2 m
+        → Ahead content fits (take 20 (drop (cell_at n + 4) m)) n x
+    leads_to link n x xs h k e =
+        let is : n ≡ x.number = e ∙ stands_index m link (cells_with kind content (x ∷ xs)) h.0 (omega arith) in
+        record { number = is; fit = h.1.0; stands = first_content link n x xs h is }
 
     -- a cell that has no record is led to by none
     pub leads_not : (link n : ℕ) (xs : List (At X)) → Leads kind content fits (byte_in m) link xs → link + 2 ≤ 6144 → n ≡ field link 2 m

@@ -1,6 +1,7 @@
 -- What the free chain, a bucket and an account's chain of a ledger are for a walk.
-use Rattle.std.proofs.Common.{◌≡◌, ℕ, ◌<◌, ◌≤◌, ◌≢◌, Bool, true, false, cond, List, [], ◌∷◌, length, map, bytes_eq, Some, None, Option, refl, sym, ap, ◌∙◌, subst, arith}
-use Rattle.record.specs.Fields.{field}
+use Rattle.std.proofs.Common.{◌≡◌, ℕ, ◌<◌, ◌≤◌, ◌≢◌, Bool, true, false, cond, List, [], ◌∷◌, ◌++◌, length, map, take, replicate, bytes_eq, Some, None, Option, refl, sym, ap, ◌∙◌, subst, arith}
+use Rattle.std.proofs.Math.Seq.{take-append_seam}
+use Rattle.record.specs.Fields.{field, digits}
 use Rattle.book.specs.declared.records.Tag.{Tag}
 use Rattle.book.specs.declared.records.Entry.{Entry}
 use Rattle.book.specs.Records.{bucket_of, tag_kind, tag_content, TagFits, entry_kind, entry_content, EntryFits}
@@ -57,6 +58,12 @@ leads_entries f b a h i =
 -- a walk for a tag's own bytes finds its place and its account
 abbrev pub is_id : List ℕ → Tag → Bool
 is_id id t = bytes_eq t.id id
+
+-- a tag's own bytes come first in its content
+pub own_first : (t : Tag) (content : List ℕ) → TagFits t → tag_content t ≡ content → take 8 content ≡ t.id
+own_first t content fit e =
+    let rest = digits 2 t.account ++ replicate 10 0 in
+    ap (take 8) (sym e) ∙ ap (λ (k : ℕ). take k (t.id ++ rest)) (sym fit.0) ∙ take-append_seam t.id rest
 
 place_part : Option (Placed Tag) → Option Place
 place_part None = None

@@ -1,7 +1,6 @@
 -- Lemmas on plans.
 pub mod Standing
 pub mod Planning
-pub mod Cells
 pub mod Following
 pub mod Shortness
 pub mod Seeking

@@ -1,13 +1,14 @@
 -- A walk along a chain that looks for a record.
-use Rattle.std.proofs.Common.{◌≡◌, ℕ, ◌+◌, ◌≤◌, Bool, true, false, List, [], ◌∷◌, length, Some, None, Bor, refl, sym, ap, ◌∙◌, subst, arith}
-use Rattle.book.specs.Layout.{cell_at, first_of}
+use Rattle.std.proofs.Common.{◌≡◌, ℕ, ◌+◌, ◌≤◌, Bool, true, false, List, [], ◌∷◌, length, None, Option, Bor, refl, sym, ap, ◌∙◌, subst, arith}
+use Rattle.book.specs.Layout.{cell_at}
 use Rattle.book.specs.Book.{At}
 use Rattle.plans.specs.Walks.{cells_with, Leads, Placed, first_such}
+use Rattle.plans.proofs.Following.{Ahead}
 use Rattle.plans.proofs.Shortness.{chain_short}
 
--- The test that a closure answers.
-abbrev pub Answers : {X : Type 0} → (Bor X → Bool → Type 0) → (X → Bool) → Type 0
-Answers {X} post test = (x : Bor X) (r : Bool) → post x r → r ≡ test x.now
+-- The test that a closure answers, where it is given a record's content.
+abbrev pub Answers : {X : Type 0} → (X → List ℕ) → (X → Type 0) → (Bor (List ℕ) → Bool → Type 0) → (X → Bool) → Type 0
+Answers content fits post test = (x : Bor (List ℕ)) (r : Bool) → post x r → (item : _) → fits item → content item ≡ x.now → r ≡ test item
 
 module _ {X : Type 0} (kind : ℕ) (content : X → List ℕ) (fits : X → Type 0) (f : ℕ → ℕ) (test : X → Bool) (head : ℕ) where
   -- The walk has passed i of these records, and goes on at this link with the rest.
@@ -18,32 +19,38 @@ module _ {X : Type 0} (kind : ℕ) (content : X → List ℕ) (fits : X → Type
   pub begins : (xs : List (At X)) → Leads kind content fits f head xs → GoesOn head 0 xs
   begins xs h = (xs, h, refl, omega arith)
 
-  -- a record that fails the test is passed
-  passed_by : (link i : ℕ) (p : Placed X) (xs ys : List (At X)) → Leads kind content fits f link ys → first_such test head xs ≡ first_such test link ys → length xs ≡ i + length ys
-      → Some p ≡ first_such (λ _. true) link ys → test p.item ≡ false → GoesOn (cell_at p.place.number) (i + 1) xs
-  passed_by link i p xs [] h e n is missed = cc
-  passed_by link i p xs (y ∷ ys) h e n is missed =
-      let same : p ≡ record { place = record { link = link; number = y.number; next = first_of (cells_with 0 (λ _. []) ys) }; item = y.item } = cc in
-      let number : p.place.number ≡ y.number = ap (λ (q : Placed X). q.place.number) same in
-      let item : test y.item ≡ false = ap (λ (q : Placed X). test q.item) (sym same) ∙ missed in
-      let rest : first_such test head xs ≡ first_such test (cell_at y.number) ys = rw item at e in
-      subst (λ (k : ℕ). GoesOn (cell_at k) (i + 1) xs) (sym number) (ys, (h.0.3, h.1.1), rest, omega arith)
+  -- It stands before the record in cell n, whose content stands in these bytes.
+  pub record Before (link n : ℕ) (bytes : List ℕ) : Type 0 where
+    pub none : Leads kind content fits f link [] → ⊥
+    pub some : (y : At X) (ys : List (At X)) → Leads kind content fits f link (y ∷ ys) → Ahead content fits bytes n y
 
-  pub goes_by : (link i : ℕ) (p : Placed X) (xs : List (At X)) → GoesOn link i xs
-      → ((ys : List (At X)) → Leads kind content fits f link ys → Some p ≡ first_such (λ _. true) link ys) → test p.item ≡ false → GoesOn (cell_at p.place.number) (i + 1) xs
-  goes_by link i p xs (ys, h, e, n) is missed = passed_by link i p xs ys h e n (is ys h) missed
+  -- a record that fails the test is passed
+  passed_by : (link i n : ℕ) (bytes : List ℕ) (xs ys : List (At X)) → Leads kind content fits f link ys → first_such test head xs ≡ first_such test link ys → length xs ≡ i + length ys
+      → Before link n bytes → ((item : X) → fits item → content item ≡ bytes → test item ≡ false) → GoesOn (cell_at n) (i + 1) xs
+  passed_by link i n bytes xs [] h e k w missed = absurd (w.none h)
+  passed_by link i n bytes xs (y ∷ ys) h e k w missed =
+      let a = w.some y ys h in
+      let item : test y.item ≡ false = missed y.item a.fit a.stands in
+      let rest : first_such test head xs ≡ first_such test (cell_at y.number) ys = rw item at e in
+      subst (λ (j : ℕ). GoesOn (cell_at j) (i + 1) xs) (sym a.number) (ys, (h.0.3, h.1.1), rest, omega arith)
+
+  pub goes_by : (link i n : ℕ) (bytes : List ℕ) (xs : List (At X)) → GoesOn link i xs → Before link n bytes
+      → ((item : X) → fits item → content item ≡ bytes → test item ≡ false) → GoesOn (cell_at n) (i + 1) xs
+  goes_by link i n bytes xs (ys, h, e, k) w missed = passed_by link i n bytes xs ys h e k w missed
 
   -- one that passes is what is looked for
-  stops_at : (link : ℕ) (p : Placed X) (ys : List (At X)) → Some p ≡ first_such (λ _. true) link ys → test p.item ≡ true → Some p ≡ first_such test link ys
-  stops_at link p [] is hit = cc
-  stops_at link p (y ∷ ys) is hit =
-      let same : p ≡ record { place = record { link = link; number = y.number; next = first_of (cells_with 0 (λ _. []) ys) }; item = y.item } = cc in
-      let item : test y.item ≡ true = ap (λ (q : Placed X). test q.item) (sym same) ∙ hit in
+  stops_at : (link n : ℕ) (bytes : List ℕ) (ys : List (At X)) (p : Option (Placed X)) → Leads kind content fits f link ys → Before link n bytes
+      → ((item : X) → fits item → content item ≡ bytes → test item ≡ true) → p ≡ first_such (λ _. true) link ys → p ≡ first_such test link ys
+  stops_at link n bytes [] p h w hit is = absurd (w.none h)
+  stops_at link n bytes (y ∷ ys) p h w hit is =
+      let a = w.some y ys h in
+      let item : test y.item ≡ true = hit y.item a.fit a.stands in
       rw item is
 
-  pub stops : (link i : ℕ) (p : Placed X) (xs : List (At X)) → GoesOn link i xs
-      → ((ys : List (At X)) → Leads kind content fits f link ys → Some p ≡ first_such (λ _. true) link ys) → test p.item ≡ true → Some p ≡ first_such test head xs
-  stops link i p xs (ys, h, e, n) is hit = stops_at link p ys (is ys h) hit ∙ sym e
+  pub stops : (link i n : ℕ) (bytes : List ℕ) (xs : List (At X)) (p : Option (Placed X)) → GoesOn link i xs → Before link n bytes
+      → ((item : X) → fits item → content item ≡ bytes → test item ≡ true)
+      → ((ys : List (At X)) → Leads kind content fits f link ys → p ≡ first_such (λ _. true) link ys) → p ≡ first_such test head xs
+  stops link i n bytes xs p (ys, h, e, k) w hit is = stops_at link n bytes ys p h w hit (is ys h) ∙ sym e
 
   -- where the chain ends there is none
   ends_at : (link : ℕ) (ys : List (At X)) → None ≡ first_such (λ _. true) link ys → None ≡ first_such test link ys

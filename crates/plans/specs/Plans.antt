@@ -1,18 +1,25 @@
 -- What a plan puts into the memory, and what the plan of a change is.
-use Rattle.std.specs.Prelude.{◌≡◌, ℕ, ◌^◌, ◌≤◌, true, false, List, [], ◌∷◌, map, Some, None, Ok, Err, Option, Result}
+use Rattle.std.specs.Prelude.{◌≡◌, ℕ, ◌^◌, ◌≤◌, true, false, List, [], ◌∷◌, Some, None, Ok, Err, Option, Result}
+use Rattle.record.specs.Fields.{digits}
 use Rattle.book.specs.declared.records.Entry.{Entry}
 use Rattle.book.specs.declared.fault.LedgerFault.{LedgerFault}
+use Rattle.book.specs.Layout.{balance_at, head_at, cell_at, cell, whole}
 use Rattle.book.specs.Book.{Book, Holds}
 use Rattle.book.specs.Rows.{Row, first_fit, same, nothing, short, no_cell}
 use Rattle.book.specs.Edits.{Edit, edit}
-use Rattle.plans.specs.declared.plan.Patch.{Patch}
+use Rattle.plans.specs.declared.plan.Relink.{Relink}
 use Rattle.plans.specs.declared.plan.Plan.{Plan}
+use Rattle.plans.specs.declared.plan.Plan.TheVariants.{Issue, Payment, Relink as Relinks}
 
-abbrev pub edit_of : Patch → Edit
-edit_of p = edit p.start p.bytes.items
+-- The index, the cell and the head of the free chain.
+abbrev pub relinking : Relink → List Edit
+relinking x = edit x.link (digits 2 x.to) ∷ edit (cell_at x.number) (whole x.next (cell x.number x.kind x.content)) ∷ edit (head_at 0) (digits 2 x.free) ∷ []
 
+-- What a plan puts into the memory, in this order.
 abbrev pub edits_of : Plan → List Edit
-edits_of p = map edit_of p.patches.items
+edits_of (Issue i) = edit 0 (digits 8 i.total) ∷ edit (balance_at i.account) (digits 8 i.balance) ∷ []
+edits_of (Payment p) = edit (balance_at p.payer) (digits 8 p.left) ∷ edit (balance_at p.payee) (digits 8 p.grown) ∷ relinking p.entry
+edits_of (Relinks x) = relinking x
 
 -- A test is passed, or refuses.
 abbrev pub Passes : {A : Type 0} → Row → Result A LedgerFault → Type 0

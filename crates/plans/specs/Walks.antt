@@ -1,17 +1,21 @@
 -- What a walk along a chain finds.
-use Rattle.std.specs.Prelude.{◌≡◌, ℕ, Bool, true, false, cond, List, [], ◌∷◌, map, Some, None, Ok, Err, Option, Result}
+use Rattle.std.specs.Prelude.{◌≡◌, ℕ, ◌<◌, ◌⊎◌, Bool, true, false, cond, List, [], ◌∷◌, map, Some, None, Ok, Err, Option, Result}
 use Rattle.book.specs.declared.fault.LedgerFault.{LedgerFault}
-use Rattle.book.specs.declared.fault.LedgerFault.TheVariants.{NoCell, Unknown}
+use Rattle.book.specs.declared.fault.LedgerFault.TheVariants.{NoCell}
 use Rattle.book.specs.declared.records.Tag.{Tag}
 use Rattle.book.specs.declared.records.Entry.{Entry}
-use Rattle.book.specs.Records.{bucket_of}
-use Rattle.book.specs.Layout.{cell_at, Cell, cell, first_of}
+use Rattle.book.specs.Layout.{cell_at, Cell, cell, first_of, InCells}
 use Rattle.book.specs.Layout as layout
 use Rattle.book.specs.Book.{Book, At}
 use Rattle.book.specs.Rows.{account_of, is_empty}
 use Rattle.book.specs.Edits.{Place, place_of, head_or_0, rest_of, unlink, front_of, collect_edits}
 use Rattle.plans.specs.declared.found.Found.{Found}
 use Rattle.plans.specs.declared.found.FreeCell.{FreeCell}
+
+-- An index leads to this cell, or to none.
+abbrev pub Leading : ℕ → Option ℕ → Type 0
+Leading n None = (n < 1) ⊎ (200 < n)
+Leading n (Some x) = (x ≡ n) × InCells x
 
 -- Records of one kind as cells.
 abbrev pub cells_with : {X : Type 0} → ℕ → (X → List ℕ) → List (At X) → List Cell
@@ -55,11 +59,6 @@ Frees a ns (Err f) = (is_empty ns ≡ true) × (f ≡ NoCell a)
 abbrev pub Sought : Book → List ℕ → Option (Found Tag) → Type 0
 Sought b id None = (place_of b id ≡ None) × (account_of b id ≡ None)
 Sought b id (Some r) = (place_of b id ≡ Some (placed r).place) × (account_of b id ≡ Some r.record.account)
-
--- The account of a tag, or that there is no such tag.
-abbrev pub Known : Book → List ℕ → Result ℕ LedgerFault → Type 0
-Known b id (Ok a) = account_of b id ≡ Some a
-Known b id (Err f) = (account_of b id ≡ None) × (f ≡ Unknown (bucket_of id))
 
 -- The front entry of an account, which a collection takes out.
 abbrev pub Fronted : Book → ℕ → Option (Found Entry) → Type 0

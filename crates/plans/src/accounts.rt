@@ -8,7 +8,7 @@ ghost use Rattle.plans.specs.Plans.{Planned, Told, Grown, edits_of};
 ghost use Rattle.record.specs.Fields.{digits};
 
 use crate::checks::{check_account, check_some, check_total};
-use crate::plan::Plan;
+use crate::plan::{Issue, Plan};
 use crate::reading::{amount as amount_in, balance};
 use book::{LedgerFault, TOTAL};
 use image::MEMORY;
@@ -46,8 +46,9 @@ fn issuing(account: u16, total: u64, balance: u64) -> Plan
     requires { account ≤ 64 }
     ensures { edits_of result ≡ edit 0 (digits 8 total) ∷ edit (balance_at account) (digits 8 balance) ∷ [] }
 {
-    let mut plan = Plan::new();
-    plan.set_amount(TOTAL, total);
-    plan.set_balance(account, balance);
-    plan
+    Plan::Issue(Issue {
+        total,
+        account,
+        balance,
+    })
 }

@@ -14,5 +14,5 @@ mod walking;
 
 pub use accounts::{balance_of, plan_issue};
 pub use paying::{plan_collect, plan_move, plan_visit};
-pub use plan::{PATCHES, Patch, Plan};
+pub use plan::{Issue, Payment, Plan, Relink};
 pub use tags::{find_tag, plan_drop, plan_enrol};

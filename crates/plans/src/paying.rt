@@ -12,12 +12,12 @@ ghost use Rattle.plans.specs.Putting.{putting};
 use crate::accounts::grown;
 use crate::checks::{check_account, check_balance, check_other, check_some};
 use crate::found::FreeCell;
-use crate::plan::Plan;
-use crate::putting::taking_out;
+use crate::plan::{Payment, Plan};
+use crate::putting::{inserted, taking_out};
 use crate::reading::balance;
-use crate::tags::known;
+use crate::tags::find_tag;
 use crate::walking::{front_entry, front_free};
-use book::{Chain, Entry, LedgerFault};
+use book::{Chain, Entry, LedgerFault, bucket_of};
 use image::MEMORY;
 
 // Moving: one account pays another, and an entry goes to the front of the payer's.
@@ -39,7 +39,9 @@ pub fn plan_visit(memory: &[u8; MEMORY], id: &[u8; 8], guard: u16) -> Result<Pla
     ensures { (b : Book) → Holds (byte_in memory.now) b → Planned (visit_rows b id.now guard) (visit_edits b id.now guard) result }
 {
     check_account(guard)?;
-    let payer = known(memory, id)?;
+    let Some(payer) = find_tag(memory, id) else {
+        return Err(LedgerFault::Unknown(bucket_of(id) as usize));
+    };
     // In a ledger every tag has an account.
     check_account(payer)?;
     pay(memory, payer, guard, 1)
@@ -74,11 +76,14 @@ fn moving(
     requires paid { entry.now.payee ≤ 64 }
     ensures { edits_of result ≡ edit (balance_at payer) (digits 8 left) ∷ edit (balance_at entry.now.payee) (digits 8 grown) ∷ putting (head_at payer) (field (head_at payer) 2 memory.now) cell.now.number cell.now.next entry_kind (entry_content entry.now) }
 {
-    let mut plan = Plan::new();
-    plan.set_balance(payer, left);
-    plan.set_balance(entry.payee, grown);
-    plan.put_in_front(memory, cell, Chain::Account(payer), entry);
-    plan
+    let chain = Chain::Account(payer);
+    Plan::Payment(Payment {
+        payer,
+        left,
+        payee: entry.payee,
+        grown,
+        entry: inserted(memory, cell, chain, entry),
+    })
 }
 
 // Collecting: the front entry of an account is taken out.

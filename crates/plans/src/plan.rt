@@ -1,61 +1,51 @@
-// A plan: the bytes that a change puts into the memory.
-ghost use Rattle.std.specs.Prelude.{◌≡◌, ◌+◌, ◌<◌, ◌≤◌, [], ◌∷◌, ◌++◌, length};
-ghost use Rattle.arrayvec.specs.ArrayVec.{array_vec_len};
-ghost use Rattle.book.specs.Edits.{edit};
+// A plan: the numbers from which follows what a change puts into the memory. Its bytes are made where they are put in,
+// so that none is kept and moved before.
+ghost use Rattle.std.specs.Prelude.{◌+◌, ◌≤◌};
 
-use arrayvec::ArrayVec;
-use book::CELL;
+use book::CONTENT;
 
-// The most patches that a change takes.
-pub const PATCHES: usize = 5;
-
-// Some bytes, no more than a cell has, that lie in the memory from `start` on, so that declaring them is never refused.
-#[derive(Drop)]
-pub struct Patch {
-    pub start: usize,
-    pub bytes: ArrayVec<u8, CELL>,
-    ghost some: { 1 ≤ array_vec_len bytes },
-    ghost within: { start + array_vec_len bytes ≤ 6144 },
+// More in an account, and in the total: what they have then.
+#[derive(Clone, Copy)]
+pub struct Issue {
+    pub total: u64,
+    pub account: u16,
+    pub balance: u64,
+    pub ghost known: { account ≤ 64 },
 }
 
-// What stands where no patch was put yet. By hand: a derive would make a patch without bytes.
-impl Default for Patch {
-    fn default() -> Self {
-        Patch {
-            start: 0,
-            bytes: ArrayVec::from([0; CELL]),
-        }
-    }
+// A cell changes its chain: it comes from the free ones, or goes to them.
+#[derive(Clone, Copy)]
+pub struct Relink {
+    // Where the index stands by which the other chain is changed, and the cell to which it leads then.
+    pub link: usize,
+    pub to: u16,
+    // The cell, and what it has then: the index of the next one, its kind and its content.
+    pub number: u16,
+    pub next: u16,
+    pub kind: u8,
+    pub content: [u8; CONTENT],
+    // The front free cell then.
+    pub free: u16,
+    pub ghost linked: { link + 2 ≤ 6144 },
+    pub ghost inside: { number ≤ 200 },
 }
 
-// What a change puts into the memory, in the order in which it is put in.
-#[derive(Drop)]
-pub struct Plan {
-    pub patches: ArrayVec<Patch, PATCHES>,
+// What the payer has left, what the payee has then, and the entry of it.
+#[derive(Clone, Copy)]
+pub struct Payment {
+    pub payer: u16,
+    pub left: u64,
+    pub payee: u16,
+    pub grown: u64,
+    pub entry: Relink,
+    pub ghost paying: { payer ≤ 64 },
+    pub ghost paid: { payee ≤ 64 },
 }
 
-impl Plan {
-    ghost use Rattle.plans.specs.Plans.{edits_of};
-
-    // A plan of nothing.
-    pub(crate) fn new() -> Plan
-        ensures { edits_of result ≡ [] }
-    {
-        Plan {
-            patches: ArrayVec::new(),
-        }
-    }
-
-    // Plans these bytes from `start` on.
-    pub(crate) fn put(&mut self, start: usize, bytes: &[u8])
-        requires room { array_vec_len self.old.patches < 5 }
-        requires some { 1 ≤ length bytes.now }
-        requires few { length bytes.now ≤ 24 }
-        requires within { start + length bytes.now ≤ 6144 }
-        ensures count { array_vec_len self.new.patches ≡ array_vec_len self.old.patches + 1 }
-        ensures edits { edits_of self.new ≡ edits_of self.old ++ edit start bytes.now ∷ [] }
-    {
-        let bytes = ArrayVec::try_from(bytes).unwrap();
-        self.patches.push(Patch { start, bytes });
-    }
+// What a change puts into the memory.
+#[derive(Clone, Copy)]
+pub enum Plan {
+    Issue(Issue),
+    Payment(Payment),
+    Relink(Relink),
 }

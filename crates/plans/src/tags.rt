@@ -8,12 +8,11 @@ ghost use Rattle.book.specs.Rows.{account_of, enrol_rows, drop_rows, present};
 ghost use Rattle.book.specs.Edits.{tag, enrol_edits, drop_edits};
 ghost use Rattle.plans.specs.Plans.{Passes, Planned, edits_of};
 ghost use Rattle.plans.specs.Putting.{putting};
-ghost use Rattle.plans.specs.Walks.{Known};
 
 use crate::checks::check_account;
 use crate::found::FreeCell;
 use crate::plan::Plan;
-use crate::putting::taking_out;
+use crate::putting::{inserted, taking_out};
 use crate::walking::{front_free, seek_tag};
 use book::{Chain, LedgerFault, Tag, bucket_of};
 use image::MEMORY;
@@ -24,13 +23,6 @@ pub fn find_tag(memory: &[u8; MEMORY], id: &[u8; 8]) -> Option<u16>
 {
     let found = seek_tag(memory, id)?;
     Some(found.record.account)
-}
-
-// The account of a tag that has to be there.
-pub(crate) fn known(memory: &[u8; MEMORY], id: &[u8; 8]) -> Result<u16, LedgerFault>
-    ensures { (b : Book) → Holds (byte_in memory.now) b → Known b id.now result }
-{
-    find_tag(memory, id).ok_or(LedgerFault::Unknown(bucket_of(id) as usize))
 }
 
 // The tag is not there yet.
@@ -57,10 +49,9 @@ pub fn plan_enrol(memory: &[u8; MEMORY], id: &[u8; 8], account: u16) -> Result<P
 fn enrolling(memory: &[u8; MEMORY], cell: &FreeCell, id: &[u8; 8], account: u16) -> Plan
     ensures { let head = head_at (bucket_chain (bucket_of id.now)) in edits_of result ≡ putting head (field head 2 memory.now) cell.now.number cell.now.next tag_kind (tag_content (tag id.now account)) }
 {
-    let mut plan = Plan::new();
     let tag = Tag { id: *id, account };
-    plan.put_in_front(memory, cell, Chain::Bucket(bucket_of(id)), &tag);
-    plan
+    let chain = Chain::Bucket(bucket_of(id));
+    Plan::Relink(inserted(memory, cell, chain, &tag))
 }
 
 // Dropping: a tag is taken out of its bucket.
