@@ -15,7 +15,10 @@ use Rattle.recovery.specs.Opening.{Opens}
 use Rattle.recovery.specs.Clearing.{clearing}
 use Rattle.image.specs.declared.run.Run.{Run}
 use Rattle.image.specs.Runs.{run, Declared, joined}
-use Rattle.image.specs.Calls.{declared}
+use Rattle.image.specs.declared.state.Image.{Image}
+use Rattle.image.specs.declared.run.ImageFault.{ImageFault}
+use Rattle.image.specs.declared.run.ImageFault.TheVariants as image
+use Rattle.image.specs.Calls.{declared, Declares}
 use Rattle.image.proofs.Alone.{runs_are_joined}
 use Rattle.transactions.specs.declared.state.State.{State}
 use Rattle.transactions.specs.State.{StandsAt, Idle, OpenOn}
@@ -76,6 +79,17 @@ found_stands d e r memory s (inr (n, divides, inr (m, restart, (finds, cleared, 
     opened_stands n s m e r.ordinal r.strays r.low r.last memory r.pages (omega (arith, divides.least)) restart.quiet finds cleared tabled
     record { places_is = omega (arith, log.places_is, divides.homes); low_is = log.low_is; last_is = log.last_is; ordinal_is = log.ordinal_is }
     empty pages
+
+-- where nothing is declared, the whole memory may be
+never_refused : (x y : Image) (f : ImageFault) → declared x ≡ [] → Declares 0 6144 x (Err f) y → ⊥
+never_refused x y (image.Range s) none h = ⊎_elim (λ (e : 6144 ≡ 0). omega arith) (λ (l : 6144 < 0 + 6144). omega arith) h.out
+never_refused x y (image.Runs s) none h =
+    let is = runs_are_joined 0 6144 x.runs h.runs (lit≤ tt) h.declares ∙ ap (joined 0 6144) none in
+    omega (arith, h.many, ap (λ (rs : List Run). length rs) is)
+never_refused x y (image.Undeclared b) none h = h
+
+pub returns-in_err-declare-clause-opened : goal.returns-in_err-declare-clause-opened
+returns-in_err-declare-clause-opened g c = absurd (never_refused c.args.state.now.image c.declare.new.self c.in_err-declare.field-0.0 c.requires.idle.clean c.in_err-declare.ensures)
 
 pub invariant_of-state-2 : goal.invariant_of-state-2
 invariant_of-state-2 g c =
