@@ -102,6 +102,16 @@ Opens d r e memory =
     ((count : ℕ) × (r ≡ Err (Size count)) × Divided d.plate.sectors (Err (Size count)) × (e ≡ d))
     ⊎ ((n : ℕ) × Divides d.plate.sectors n × (NoRestart d r e ⊎ ((m : Disk) × Restarted d m × Recovers n m r e memory)))
 
+-- An opening that is refused for the number of sectors, for a log without a record or without its mark leaves the
+-- memory as it was: nothing was loaded yet.
+abbrev pub Spares : {A : Type 0} → Result A RecoveryFault → List ℕ → List ℕ → Type 0
+Spares (Ok _) before after = Unit {0}
+Spares (Err (Device _)) before after = Unit {0}
+Spares (Err (Size _)) before after = after ≡ before
+Spares (Err NoLog) before after = after ≡ before
+Spares (Err (NoMark _)) before after = after ≡ before
+Spares (Err (Uncovered _)) before after = Unit {0}
+
 -- A format tests the number of sectors first, and leaves a device that it refuses as it was. The plan of
 -- device calls is then made whole, and answers how many sectors the log has; or power cuts it.
 abbrev pub Formats : Disk → Result ℕ RecoveryFault → Disk → Type 0

@@ -2,7 +2,7 @@
 ghost use Rattle.std.specs.Prelude.{◌≡◌, ◌+◌, ◌≤◌, length};
 ghost use Rattle.journal.specs.Notes.{Noted};
 ghost use Rattle.journal.specs.Survey.{Surveyed};
-ghost use Rattle.recovery.specs.Opening.{Sees, Rebuilt, Recovers, Opens};
+ghost use Rattle.recovery.specs.Opening.{Sees, Rebuilt, Recovers, Opens, Spares};
 
 use crate::MEMORY;
 use crate::clearing::clear;
@@ -52,7 +52,8 @@ fn rebuild<D: Device>(
     requires room { places.count + 64 ≤ (D.Device.disk device.old).plate.sectors }
     requires noted { Noted places.count (D.Device.disk device.old).shows notes.now }
     requires seen { Surveyed places.count (D.Device.disk device.old).shows survey.now }
-    ensures { Sees places.count (D.Device.disk device.old) (Rebuilt places.count (D.Device.disk device.old).shows survey.now.low survey.now.last memory.new) result (D.Device.disk device.new) }
+    ensures rebuilt { Sees places.count (D.Device.disk device.old) (Rebuilt places.count (D.Device.disk device.old).shows survey.now.low survey.now.last memory.new) result (D.Device.disk device.new) }
+    ensures spares { Spares result memory.old memory.new }
 {
     load_homes(device, places, survey, buffer, memory)?;
     Ok(replay(device, notes, survey, buffer, memory)?)
@@ -67,7 +68,8 @@ fn recover<D: Device>(
 ) -> Result<Recovery, RecoveryFault>
     requires sized { length notes.old ≡ places.count }
     requires room { places.count + 64 ≤ (D.Device.disk device.old).plate.sectors }
-    ensures { Recovers places.count (D.Device.disk device.old) result (D.Device.disk device.new) memory.new }
+    ensures recovers { Recovers places.count (D.Device.disk device.old) result (D.Device.disk device.new) memory.new }
+    ensures spares { Spares result memory.old memory.new }
 {
     let mut buffer = [0; SECTOR];
     let survey = inspect(device, notes, &mut buffer)?;
@@ -89,19 +91,22 @@ fn recover_places<D: Device>(
     memory: &mut [u8; MEMORY],
 ) -> Result<Recovery, RecoveryFault>
     requires { places.count + 64 ≤ (D.Device.disk device.old).plate.sectors }
-    ensures { Recovers places.count (D.Device.disk device.old) result (D.Device.disk device.new) memory.new }
+    ensures recovers { Recovers places.count (D.Device.disk device.old) result (D.Device.disk device.new) memory.new }
+    ensures spares { Spares result memory.old memory.new }
 {
     let mut notes = [Note::BLANK; MOST];
     recover(device, places, &mut notes[..places.count], memory)
 }
 
-// Opens the log of a device, on or off, and makes the memory from it.
+// Opens the log of a device, on or off, and makes the memory from it. Where it refuses for the number of sectors, for
+// no record or for no mark, the memory stays as it was; where it refuses for a home, or power fails, it may be changed.
 pub fn open_log<D: Device>(
     device: &mut D,
     memory: &mut [u8; MEMORY],
 ) -> Result<Recovery, RecoveryFault>
     ensures opens { Opens (D.Device.disk device.old) result (D.Device.disk device.new) memory.new }
     ensures whole { length memory.new ≡ 6144 }
+    ensures spares { Spares result memory.old memory.new }
 {
     let places = Places::try_from(device.sectors())?;
     device.restart()?;

@@ -5,7 +5,7 @@ ghost use Rattle.journal.specs.Log.{log, said, if_serial};
 ghost use Rattle.journal.specs.Memory.{overlaid, applied, replayed};
 ghost use Rattle.journal.specs.Notes.{Tells, Noted, met, Topped, blank};
 ghost use Rattle.journal.specs.Survey.{Surveyed};
-ghost use Rattle.recovery.specs.Opening.{Sees};
+ghost use Rattle.recovery.specs.Opening.{Sees, Spares};
 ghost use Rattle.recovery.specs.Reading.{Looks, Fetched, Mentions, HomeLoaded, HomesLoaded, Replayed, ReplayedAll};
 
 use crate::MEMORY;
@@ -79,7 +79,8 @@ pub(crate) fn load_homes<D: Device>(
 ) -> Result<(), RecoveryFault>
     requires room { places.count + 64 ≤ (D.Device.disk device.old).plate.sectors }
     requires seen { Surveyed places.count (D.Device.disk device.old).shows survey.now }
-    ensures { Sees places.count (D.Device.disk device.old) (λ _. HomesLoaded (D.Device.disk device.old) places.count survey.now.pages memory.new) result (D.Device.disk device.new) }
+    ensures loaded { Sees places.count (D.Device.disk device.old) (λ _. HomesLoaded (D.Device.disk device.old) places.count survey.now.pages memory.new) result (D.Device.disk device.new) }
+    ensures spares { Spares result memory.old memory.new }
 {
     for page in 0..PAGES {
         let readable = load_home(device, places, page, buffer, memory)?;
@@ -204,10 +205,11 @@ fn look<D: Device>(
     requires { place < (D.Device.disk device.old).plate.sectors }
     ensures { Looks (D.Device.disk device.old) (λ _. Tells (said places place ((D.Device.disk device.old).shows place)) note.new × (latest.new ≡ met (said places place ((D.Device.disk device.old).shows place)) latest.old)) result (D.Device.disk device.new) }
 {
-    *note = Note::BLANK;
-    if fetch(device, place, buffer)? {
-        *note = note_of(buffer, place, places, latest);
+    if !fetch(device, place, buffer)? {
+        *note = Note::BLANK;
+        return Ok(());
     }
+    *note = note_of(buffer, place, places, latest);
     Ok(())
 }
 

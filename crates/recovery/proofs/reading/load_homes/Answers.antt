@@ -8,8 +8,8 @@ use Rattle.recovery.proofs.Rebuilding.{bare_home}
 use Rattle.recovery.proofs.reading.load_homes.Goals as goal
 use Rattle.recovery.proofs.reading.load_homes.Goals.{else-not-readable-via-then-not-readable+else-not-is_covered, else-not-readable-via-else-not-readable}
 
-pub returns-then-not-is_covered : goal.returns-then-not-is_covered
-returns-then-not-is_covered g c =
+pub returns-then-not-is_covered-clause-loaded : goal.returns-then-not-is_covered-clause-loaded
+returns-then-not-is_covered-clause-loaded g c =
     let d = g.D.Device.disk c.args.device.now in
     let old = c.loop-page.invariant in
     let h = c.in_ok-readable.ensures in
