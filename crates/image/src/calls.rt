@@ -87,7 +87,7 @@ impl Image {
         self.runs.clear();
     }
 
-    // How many pieces the declared runs are cut into.
+    /// How many pieces the declared runs are cut into: 79 at most.
     pub fn piece_count(&self) -> usize
         ensures count { result ≡ length (cut_runs (declared self.now)) }
         ensures few { result ≤ 79 }
@@ -95,7 +95,7 @@ impl Image {
         self.runs.piece_count()
     }
 
-    // The declared runs cut at the bounds of pages, the lowest first.
+    /// The declared runs cut at the bounds of pages, the lowest first, as they are asked for.
     #[inline]
     pub fn pieces(&self) -> Pieces<'_>
         ensures { left result ≡ cut_runs (declared self.now) }

@@ -20,11 +20,12 @@ pub struct Runs {
     ghost inside: { ∥ Inside items.items ∥₁ },
 }
 
-// The pieces of runs, the lowest first, each cut off when it is asked for. Each has bytes, and lies in one page of the
-// memory.
+/// The pieces of runs, the lowest first, each cut off when it is asked for. Each has bytes, and lies
+/// in one page of the memory.
 #[derive(Drop)]
 pub struct Pieces<'a> {
-    // What is left of the run that is being cut up, and the runs after it.
+    // What is left of the run that is being cut up, and the runs after it. A list of all pieces would be
+    // filled and read once for each commit.
     pub from: usize,
     pub to: usize,
     pub runs: &'a [Run],

@@ -12,8 +12,10 @@ use image::{Image, MEMORY, PAGE, Piece};
 // The parts of what is declared join what waits, in their order.
 pub(crate) fn take_in(spool: &mut Spool, ordinal: u64, image: &Image)
     requires room { array_vec_len spool.old + length (cut_runs (declared image.now)) ≤ 32 }
-    ensures count { array_vec_len spool.new ≡ array_vec_len spool.old + length (cut_runs (declared image.now)) }
-    ensures waits { waiting spool.new ≡ waiting spool.old ++ parts ordinal image.now.memory (cut_runs (declared image.now)) }
+    ensures count { array_vec_len spool.new
+        ≡ array_vec_len spool.old + length (cut_runs (declared image.now)) }
+    ensures waits { waiting spool.new
+        ≡ waiting spool.old ++ parts ordinal image.now.memory (cut_runs (declared image.now)) }
 {
     let mut pieces = image.pieces();
     while let Some(piece) = pieces.next() {

@@ -87,7 +87,10 @@ pub(crate) fn write_pieces<D: Device>(
     requires bounded { last + length (cut_runs (declared image.now)) < 2 ^ 63 }
     requires numbered { log.now.ordinal < 2 ^ 63 }
     requires room { log.now.places ≤ (D.Device.disk device.old).plate.sectors }
-    ensures { Tries (D.Device.disk device.old) (appending log.now.places log.now.low last (parts (log.now.ordinal + 1) image.now.memory (cut_runs (declared image.now)))) result (D.Device.disk device.new) }
+    ensures { Tries (D.Device.disk device.old)
+        (appending log.now.places log.now.low last
+        (parts (log.now.ordinal + 1) image.now.memory (cut_runs (declared image.now))))
+        result (D.Device.disk device.new) }
 {
     let mut serial = last;
     let mut pieces = image.pieces();

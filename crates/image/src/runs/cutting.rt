@@ -26,7 +26,7 @@ impl<'a> Pieces<'a> {
         }
     }
 
-    // Whether none is left.
+    /// Whether none is left.
     #[inline]
     pub fn is_empty(&self) -> bool
         ensures { result ≡ none (left self.now) }
