@@ -8,11 +8,11 @@ use book::LedgerFault;
 use cache::Cache;
 use cards::Card;
 use device::Device;
-use ledger_law::{Answer, Call, Change, Script, Told, work};
+use ledger_law::{Answer, Call, Script, work};
 use mirror::Mirror;
 use std::alloc::{AllocError, Global};
 use std::fmt;
-use transactions::StoreFault;
+use transactions::{StoreFault, Token};
 
 const WAREHOUSE: u16 = 1;
 
@@ -29,7 +29,7 @@ const HALL: [u8; 8] = *b"tag 4713";
 // The tags of the story. A tag is the 8 bytes of its text.
 pub const TAGS: [[u8; 8]; 3] = [GATE, YARD, HALL];
 
-const CALLS: usize = 21;
+const CALLS: usize = 24;
 
 // The name of an account.
 pub fn account_name(account: u16) -> &'static str {
@@ -66,110 +66,171 @@ impl fmt::Display for LedgerRefusal {
     }
 }
 
-fn kept(change: Change) -> Call {
-    Call::Make(change, true)
+fn issue(account: u16, amount: u64, flush: bool) -> Call {
+    Call::Issue {
+        account,
+        amount,
+        flush,
+    }
 }
 
-fn waiting(change: Change) -> Call {
-    Call::Make(change, false)
+// A round of the guard company, which is to be kept.
+fn visit(tag: [u8; 8]) -> Call {
+    Call::Visit {
+        tag,
+        guard: GUARDS,
+        flush: true,
+    }
+}
+
+// One that may wait.
+fn waiting_visit(tag: [u8; 8]) -> Call {
+    Call::Visit {
+        tag,
+        guard: GUARDS,
+        flush: false,
+    }
+}
+
+fn enrol(tag: [u8; 8], account: u16) -> Call {
+    Call::Enrol {
+        tag,
+        account,
+        flush: true,
+    }
 }
 
 // Visits are bought, tags enrolled and rounds walked. What waits as power fails in the second truncation is a round
 // and visits that are bought; what is lost of that is bought again.
 fn script() -> [Call; CALLS] {
-    let bought = Change::Issue(SCHOOL, 6);
-    let gate = Change::Visit(GATE, GUARDS);
-    let yard = Change::Visit(YARD, GUARDS);
-    let hall = Change::Visit(HALL, GUARDS);
     [
-        kept(Change::Issue(WAREHOUSE, 12)),
-        kept(Change::Issue(SCHOOL, 2)),
-        kept(Change::Enrol(GATE, WAREHOUSE)),
-        kept(Change::Enrol(YARD, WAREHOUSE)),
-        kept(Change::Enrol(HALL, SCHOOL)),
-        kept(gate),
-        kept(hall),
+        Call::Make,
+        issue(WAREHOUSE, 12, true),
+        issue(SCHOOL, 2, true),
+        enrol(GATE, WAREHOUSE),
+        enrol(YARD, WAREHOUSE),
+        enrol(HALL, SCHOOL),
+        visit(GATE),
+        visit(HALL),
         Call::Truncate,
-        kept(yard),
-        kept(hall),
-        kept(hall),
-        waiting(gate),
-        waiting(bought),
+        visit(YARD),
+        visit(HALL),
+        visit(HALL),
+        waiting_visit(GATE),
+        issue(SCHOOL, 6, false),
         Call::Truncate,
-        Call::Reopen,
-        Call::Reopen,
-        Call::Balance(SCHOOL),
-        kept(bought),
-        kept(hall),
-        waiting(yard),
+        Call::Close,
+        Call::Open,
+        Call::Close,
+        Call::Open,
+        Call::Balance { account: SCHOOL },
+        issue(SCHOOL, 6, true),
+        visit(HALL),
+        waiting_visit(YARD),
         Call::Flush,
     ]
 }
 
-fn tell_change(rt: &HostRuntime, change: Change) -> anyhow::Result<()> {
-    match change {
-        Change::Issue(account, amount) => {
-            println!(rt; "{amount} visits are issued to {}", account_name(account))?
+fn tell_call(rt: &HostRuntime, call: Call) -> anyhow::Result<()> {
+    match call {
+        Call::Make => {
+            println!(rt; "a new ledger is made on two cards, each under a write cache")?
         }
-        Change::Transfer(payer, payee, amount) => {
-            let (from, to) = (account_name(payer), account_name(payee));
-            println!(rt; "{from} pays {amount} visits to {to}")?
-        }
-        Change::Visit(id, guard) => {
-            println!(rt; "{} visits {}", account_name(guard), tag_name(&id))?
-        }
-        Change::Enrol(id, account) => {
-            println!(rt;
-                "{} is enrolled for {}",
-                tag_name(&id),
-                account_name(account)
-            )?
-        }
-        Change::DropTag(id) => println!(rt; "{} is dropped", tag_name(&id))?,
-        Change::Collect(account) => {
-            println!(rt; "an entry of {} is collected", account_name(account))?
-        }
+        Call::Open => println!(rt; "it is opened again")?,
+        Call::Close => println!(rt; "the ledger is closed")?,
+        Call::Flush => println!(rt; "what waits is written")?,
+        Call::Truncate => println!(rt; "the log is truncated")?,
+        Call::Find { tag } => println!(rt; "{} is looked up", tag_name(&tag))?,
+        Call::Balance { account } => println!(rt; "{} is looked up", account_name(account))?,
+        change => return tell_change(rt, change),
     }
     Ok(())
 }
 
-fn tell_call(rt: &HostRuntime, call: Call) -> anyhow::Result<()> {
+fn tell_change(rt: &HostRuntime, call: Call) -> anyhow::Result<()> {
     match call {
-        Call::Make(change, _) => return tell_change(rt, change),
-        Call::Find(id) => println!(rt; "{} is looked up", tag_name(&id))?,
-        Call::Balance(account) => println!(rt; "{} is looked up", account_name(account))?,
-        Call::Flush => println!(rt; "what waits is written")?,
-        Call::Truncate => println!(rt; "the log is truncated")?,
-        Call::Reopen => println!(rt; "the ledger is closed and opened again")?,
+        Call::Issue {
+            account,
+            amount,
+            ..
+        } => println!(rt; "{amount} visits are issued to {}", account_name(account))?,
+        Call::Move {
+            payer,
+            payee,
+            amount,
+            ..
+        } => {
+            let (from, to) = (account_name(payer), account_name(payee));
+            println!(rt; "{from} pays {amount} visits to {to}")?
+        }
+        Call::Visit { tag, guard, .. } => {
+            println!(rt; "{} visits {}", account_name(guard), tag_name(&tag))?
+        }
+        Call::Enrol { tag, account, .. } => {
+            println!(rt;
+                "{} is enrolled for {}",
+                tag_name(&tag),
+                account_name(account)
+            )?
+        }
+        Call::Drop { tag, .. } => println!(rt; "{} is dropped", tag_name(&tag))?,
+        Call::Collect { account, .. } => {
+            println!(rt; "an entry of {} is collected", account_name(account))?
+        }
+        // The other calls change nothing in the book.
+        _ => {}
     }
     Ok(())
+}
+
+// Whether a change of the book is settled when the call returns.
+fn is_flushed(call: Call) -> bool {
+    match call {
+        Call::Issue { flush, .. }
+        | Call::Move { flush, .. }
+        | Call::Visit { flush, .. }
+        | Call::Enrol { flush, .. }
+        | Call::Drop { flush, .. }
+        | Call::Collect { flush, .. } => flush,
+        _ => true,
+    }
 }
 
 // Tells that a change was made. Where it was to be kept, it is.
 fn tell_changed(rt: &HostRuntime, call: Call, ordinal: u64) -> anyhow::Result<()> {
-    match call {
-        Call::Make(_, false) => println!(rt; "  it waits, as transaction {ordinal}")?,
-        _ => println!(rt; "  it is kept, as transaction {ordinal}")?,
+    if is_flushed(call) {
+        println!(rt; "  it is kept, as transaction {ordinal}")?;
+    } else {
+        println!(rt; "  it waits, as transaction {ordinal}")?;
     }
     Ok(())
 }
 
 fn tell_answer(rt: &HostRuntime, call: Call, answer: Answer) -> anyhow::Result<()> {
     match answer {
-        Ok(Told::Changed(ordinal)) => return tell_changed(rt, call, ordinal),
-        Ok(Told::Collected(ordinal, entry)) => {
+        Answer::NotMade => println!(rt; "  that does not fit here")?,
+        Answer::Closed | Answer::Made(Ok(())) => {}
+        Answer::Changed(Ok(ordinal)) => return tell_changed(rt, call, ordinal),
+        Answer::Collected(Ok((ordinal, entry))) => {
             println!(rt; "  {} was paid {}", account_name(entry.payee), entry.amount)?;
             return tell_changed(rt, call, ordinal);
         }
-        Ok(Told::Found(Some(account))) => println!(rt; "  it is {}'s", account_name(account))?,
-        Ok(Told::Found(None)) => println!(rt; "  it is not enrolled")?,
-        Ok(Told::Balance(balance)) => println!(rt; "  it has {balance} visits")?,
-        Ok(Told::Flushed(records)) => println!(rt; "  {records} records were written")?,
-        Ok(Told::Truncated(pages)) => println!(rt; "  {pages} pages were written home")?,
-        Ok(Told::Opened(found, strays)) => {
+        Answer::Found(Ok(Some(account))) => println!(rt; "  it is {}'s", account_name(account))?,
+        Answer::Found(Ok(None)) => println!(rt; "  it is not enrolled")?,
+        Answer::Balance(Ok(balance)) => println!(rt; "  it has {balance} visits")?,
+        Answer::Flushed(Ok(records)) => println!(rt; "  {records} records were written")?,
+        Answer::Truncated(Ok(pages)) => println!(rt; "  {pages} pages were written home")?,
+        Answer::Opened(Ok((found, strays))) => {
             println!(rt; "  {found} transactions are found, {strays} strays were cleared")?
         }
-        Err(fault) => return say(rt, Err(LedgerRefusal(fault))),
+        Answer::Made(Err(fault))
+        | Answer::Opened(Err(fault))
+        | Answer::Changed(Err(fault))
+        | Answer::Collected(Err(fault))
+        | Answer::Found(Err(fault))
+        | Answer::Balance(Err(fault))
+        | Answer::Flushed(Err(fault))
+        | Answer::Truncated(Err(fault)) => return say(rt, Err(LedgerRefusal(fault))),
     }
     Ok(())
 }
@@ -180,10 +241,10 @@ fn standing(heap: Global, calls: &[Call], answers: &[Answer]) -> Result<Vec<Issu
     let mut issues: Vec<Issue> = Vec::new(heap);
     for (call, answer) in calls.iter().zip(answers.iter()) {
         match (*call, *answer) {
-            (Call::Make(Change::Issue(_, amount), _), Ok(Told::Changed(ordinal))) => {
+            (Call::Issue { amount, .. }, Answer::Changed(Ok(ordinal))) => {
                 issues.push(Issue { ordinal, amount })?
             }
-            (_, Ok(Told::Opened(found, _))) => issues.retain(|issue| issue.ordinal <= found),
+            (_, Answer::Opened(Ok((found, _)))) => issues.retain(|issue| issue.ordinal <= found),
             _ => {}
         }
     }
@@ -193,17 +254,18 @@ fn standing(heap: Global, calls: &[Call], answers: &[Answer]) -> Result<Vec<Issu
 // Works the script on a new ledger, tells what each call answered, and hands on the issues that stand.
 fn tell_script<D: Device + Drop>(rt: &HostRuntime, device: D) -> anyhow::Result<Vec<Issue>> {
     let calls = script();
-    let mut answers: [Answer; CALLS] = [Ok(Told::Found(None)); CALLS];
+    let mut answers: [Answer; CALLS] = [Answer::NotMade; CALLS];
     let mut store_answers: [law::Answer; 0] = [];
+    let mut tokens: [Option<Token>; 0] = [];
     let script = Script::Ledger(&calls);
-    let (_device, worked) = work(device, script, &mut store_answers, &mut answers);
-    match worked {
-        Ok(_) => println!(rt; "a new ledger is made on two cards, each under a write cache")?,
-        Err(fault) => {
-            say(rt, Err(LedgerRefusal(fault)))?;
-            return Ok(Vec::new(rt.alloc()));
-        }
-    }
+    let (_device, _count) = work(
+        device,
+        script,
+        &mut tokens,
+        &mut [],
+        &mut store_answers,
+        &mut answers,
+    );
     for (call, answer) in calls.iter().zip(answers.iter()) {
         tell_call(rt, *call)?;
         tell_answer(rt, *call, *answer)?;
