@@ -30,4 +30,9 @@ loop-piece-preserved c =
     }
 
 pub returns : goal.returns
-returns c = ?
+returns c =
+    let table = c.loop-piece.table in
+    let none = (subst (λ (r : Option Piece). YieldsFirst left c.loop-piece.pieces r c.next.new.self) c.in_default.is c.next.ensures.steps).0 in
+    λ o.
+    c.loop-piece.invariant.so o table
+    (subst (λ (ps : List Piece). Gains (parts o c.args.image.now.memory ps) table table) (sym none) (gains_none table))
