@@ -109,11 +109,6 @@ joined_some f t (r ∷ rs) =
     (cases_lt r.to f))
     (cases_lt t r.from)
 
--- below every run a stretch is put first
-joined_low : (f t : ℕ) (rs : List Run) → Apart (t + 1) rs → joined f t rs ≡ run f t ∷ rs
-joined_low f t [] h = refl
-joined_low f t (r ∷ rs) (h, some, rest) = before f t r rs (omega arith)
-
 -- behind runs that end below the stretch
 joined_behind : (floor f t : ℕ) (rs : List Run) (k : ℕ) → f < t → Apart floor rs → k ≤ length rs
     → ((i : ℕ) → i < k → (get_or rs i (run 0 0)).to < f) → joined f t rs ≡ take k rs ++ joined f t (drop k rs)
