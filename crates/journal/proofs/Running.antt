@@ -1,8 +1,7 @@
 -- The records that follow one another from the mark of a log on, and the table of them.
-use Rattle.std.proofs.Common.{◌≡◌, ℕ, ◌+◌, ◌-◌, ◌%◌, ◌<◌, ◌≤◌, sym, refl, ap, ◌∙◌, subst, ⊎_elim, arith}
+use Rattle.std.proofs.Common.{◌≡◌, ℕ, ◌+◌, ◌-◌, ◌<◌, ◌≤◌, sym, ap, ◌∙◌, subst, ⊎_elim, arith}
 use Rattle.std.proofs.lemmas.Bool.{cases_lt}
 use Rattle.device.specs.Disk.{Shown}
-use Rattle.record.specs.Entry.{Entry}
 use Rattle.journal.specs.declared.pages.PageTable.{PageTable}
 use Rattle.journal.specs.declared.survey.Survey.{Survey}
 use Rattle.journal.specs.Log.{log}

@@ -1,9 +1,8 @@
 -- What the notes of a log's places tell of the log.
-use Rattle.std.proofs.Common.{◌≡◌, ℕ, zero, suc, ◌+◌, ◌-◌, ◌%◌, ◌^◌, ◌<◌, ◌≤◌, Bool, true, false, cond, eqb, ltb, ◌⊎◌, List, length, get_or, Some, None, sym, refl, ap, ◌∙◌, subst, ⊎_elim, mod-lt, lit≤, arith}
-use Rattle.std.proofs.lemmas.Bool.{cases_lt, cases_eq, eq-eqb, ne_eqb, lt-ltb, le-ltb, cond-true, cond-false, cond_both}
+use Rattle.std.proofs.Common.{◌≡◌, ℕ, ◌%◌, ◌^◌, ◌≤◌, cond, eqb, ltb, List, sym, refl, ap, ◌∙◌, subst, ⊎_elim, mod-lt, lit≤, arith}
+use Rattle.std.proofs.lemmas.Bool.{cases_lt, cases_eq, eq-eqb, ne_eqb, le-ltb, cond-true, cond-false}
 use Rattle.device.specs.Disk.{Shown, spoiled, holds}
 use Rattle.record.specs.Entry.{Entry, reads_as}
-use Rattle.record.specs.Fields.{field}
 use Rattle.record.specs.Found.{found}
 use Rattle.record.specs.Good.{Good, Sound}
 use Rattle.record.specs.Kind.{code_of}
@@ -15,9 +14,9 @@ use Rattle.record.proofs.Laws.{good_size, found_cases}
 use Rattle.journal.specs.declared.note.Note.{Note}
 use Rattle.journal.specs.declared.note.Latest.{Latest}
 use Rattle.journal.specs.Log.{nothing, said, if_serial, log}
-use Rattle.journal.specs.Notes.{number_of, Tells, TellsOf, blank, Noted, later, met, MetAt, Topped}
+use Rattle.journal.specs.Notes.{number_of, Tells, TellsOf, blank, later, met, Topped}
 use Rattle.journal.specs.Opening.{Here, Names, HasNoLog}
-use Rattle.journal.proofs.Places.{sound, said_good, said_bad, no_places, at_place, in_log, kept, empty_log}
+use Rattle.journal.proofs.Places.{sound, said_good, said_bad, at_place, in_log, kept}
 
 -- the note of a sector
 

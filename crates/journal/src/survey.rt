@@ -76,6 +76,21 @@ fn tell(pages: &mut PageTable, note: Note, kind: Kind)
     }
 }
 
+// Takes in the record with this note, of which the serial comes next: notes what it says in the table of all, and where
+// it ends a transaction or stands alone the log runs to it.
+fn take_in(survey: &mut Survey, pages: &mut PageTable, note: Note, kind: Kind)
+    ensures low { survey.new.low ≡ survey.old.low }
+    ensures told { (e : Entry) → Tells e note → code_of kind ≡ e.kind → (e.kind ≡ 4 → length e.bytes ≡ 0) → NotedIn e pages.old pages.new }
+    ensures closes { 2 ≤ code_of kind → survey.new ≡ record { low = survey.old.low; last = note.serial; pages = pages.new } }
+    ensures goes { code_of kind ≤ 1 → survey.new ≡ survey.old }
+{
+    tell(pages, note, kind);
+    if closes(kind) {
+        survey.last = note.serial;
+        survey.pages = *pages;
+    }
+}
+
 // The records that follow the mark `low` without a gap, as far as the last of them that ends a transaction or stands
 // alone, and what they say of the pages.
 fn run_from(notes: &[Note], low: u64) -> Survey
@@ -96,11 +111,7 @@ fn run_from(notes: &[Note], low: u64) -> Survey
         let Some(kind) = kind_of(note, serial) else {
             break;
         };
-        tell(&mut pages, note, kind);
-        if closes(kind) {
-            survey.last = serial;
-            survey.pages = pages;
-        }
+        take_in(&mut survey, &mut pages, note, kind);
     }
     survey
 }

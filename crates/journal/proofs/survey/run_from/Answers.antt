@@ -1,20 +1,19 @@
 -- Each record that follows carries the run on.
-use Rattle.std.proofs.Common.{◌≡◌, ℕ, ◌+◌, ◌-◌, ◌%◌, ◌<◌, ◌≤◌, cond, eqb, List, length, get_or, sym, refl, ap, ◌∙◌, subst, mod-lt, arith}
-use Rattle.std.proofs.lemmas.Bool.{leb-true, leb-false}
+use Rattle.std.proofs.Common.{◌≡◌, ℕ, ◌+◌, ◌-◌, ◌%◌, ◌<◌, ◌≤◌, cond, eqb, length, get_or, sym, refl, ap, ◌∙◌, subst, ⊎_elim, mod-lt, arith}
+use Rattle.std.proofs.lemmas.Bool.{cases_lt, cases_eq, ne_eqb, cond-false}
 use Rattle.device.specs.Disk.{Shown}
 use Rattle.record.specs.Kind.{code_of}
 use Rattle.journal.specs.declared.note.Note.{Note}
 use Rattle.journal.specs.declared.pages.PageTable.{PageTable}
 use Rattle.journal.specs.declared.survey.Survey.{Survey}
-use Rattle.journal.specs.Log.{log, said}
-use Rattle.journal.specs.Notes.{number_of, Tells, blank}
+use Rattle.journal.specs.Log.{log}
+use Rattle.journal.specs.Notes.{number_of, blank}
 use Rattle.journal.specs.Opening.{Here}
 use Rattle.journal.specs.Pages.{Noted}
 use Rattle.journal.proofs.Places.{kept}
 use Rattle.journal.proofs.Telling.{kind_told, tells_log, kind_some, no_serial}
 use Rattle.journal.proofs.Running.{RunningTo, run_begins, run_closes, run_goes, run_ends}
 use Rattle.journal.proofs.survey.run_from.Goals as goal
-use Rattle.journal.proofs.survey.run_from.Goals.{then-closes, else-closes}
 
 pub loop-serial-init : goal.loop-serial-init
 loop-serial-init c =
@@ -33,6 +32,11 @@ loop-serial-init c =
 next : (n s p q : ℕ) → 1 ≤ s → (s - 1) % n ≡ p → q ≡ (s - 1 + 1) % n → s % n ≡ q
 next n s p q some at is = let e : s - 1 + 1 ≡ s = omega arith in sym (is ∙ ap (λ (k : ℕ). k % n) e)
 
+-- the note of a record that was found by its serial has that serial
+same_serial : (x : Note) (s k : ℕ) → 1 ≤ k → cond (eqb x.serial s) (number_of x.kind) 0 ≡ k → x.serial ≡ s
+same_serial x s k some e =
+    ⊎_elim (λ h. h) (λ other. absurd (omega (arith, sym (cond-false (eqb x.serial s) (number_of x.kind) 0 (ne_eqb x.serial s other)) ∙ e))) (cases_eq x.serial s)
+
 pub loop-serial-preserved : goal.loop-serial-preserved
 loop-serial-preserved c =
     let notes = c.args.notes.now in
@@ -45,22 +49,26 @@ loop-serial-preserved c =
     let inside : q < n = subst (λ (k : ℕ). k < n) at (mod-lt s c.requires.1) in
     let same : s + 1 - 1 ≡ s = omega arith in
     let k = c.in-Some.kind in
-    let P = λ (shows : ℕ → Shown) (v : Survey). RunningTo n shows c.args.low (s + 1) v c.tell.new.pages in
+    let v = c.take_in.new.survey in
+    let P = λ (shows : ℕ → Shown) (w : Survey). RunningTo n shows c.args.low (s + 1) w c.take_in.new.pages in
     let x : Note = get_or notes q blank in
+    let is : x.serial ≡ s = same_serial x s (code_of k) (kind_some k) (sym c.kind_of.ensures ∙ ap number_of c.in-Some.is) in
     record {
-      low_is = elim c.if-closes.branch [ then-closes w ↦ ap (λ (v : Survey). v.low) w.survey-is ∙ l.invariant.low_is | else-closes w ↦ ap (λ (v : Survey). v.low) w.survey-is ∙ l.invariant.low_is ];
+      low_is = c.take_in.ensures.low ∙ l.invariant.low_is;
       at = ap (λ (j : ℕ). j % n) same ∙ at;
       runs =
           λ shows noted mark.
           let t = noted.each q inside in
           let kind : (log n shows s).kind ≡ code_of k = kind_told n shows s q x at t ∙ sym c.kind_of.ensures ∙ ap number_of c.in-Some.is in
           let here : Here (log n shows) s = omega (arith, kind, kind_some k) in
-          let told : Noted (log n shows s) l.pages c.tell.new.pages = c.tell.ensures (log n shows s) (tells_log n shows s q x at t here) (sym kind) (kept n shows s here).bare in
+          let told : Noted (log n shows s) l.pages c.take_in.new.pages = c.take_in.ensures.told (log n shows s) (tells_log n shows s q x at t here) (sym kind) (kept n shows s here).bare in
           let old = l.invariant.runs shows noted mark in
-          elim c.if-closes.branch [
-            | then-closes w ↦ subst (P shows) (sym w.survey-is) (run_closes n shows c.args.low s l.survey l.pages c.tell.new.pages old here told (omega (arith, kind, leb-true 2 (code_of k) (sym c.closes.ensures ∙ w.if-closes.true))))
-            | else-closes w ↦ subst (P shows) (sym w.survey-is) (run_goes n shows c.args.low s l.survey l.pages c.tell.new.pages old here told (omega (arith, kind, leb-false 2 (code_of k) (sym c.closes.ensures ∙ w.if-closes.false))))
-          ];
+          ⊎_elim
+          (λ (part : code_of k < 2). subst (P shows) (sym (c.take_in.ensures.goes (omega arith))) (run_goes n shows c.args.low s l.survey l.pages c.take_in.new.pages old here told (omega (arith, kind))))
+          (λ (ends : 2 ≤ code_of k).
+          let made = c.take_in.ensures.closes ends ∙ ap (λ (j : ℕ). record { low = l.survey.low; last = j; pages = c.take_in.new.pages }) is in
+          subst (P shows) (sym made) (run_closes n shows c.args.low s l.survey l.pages c.take_in.new.pages old here told (omega (arith, kind))))
+          (cases_lt (code_of k) 2);
     }
 
 pub returns-after-loop-serial-clause-runs : goal.returns-after-loop-serial-clause-runs

@@ -1,5 +1,5 @@
 -- The run below the serial that comes next, at the place before that serial's.
-use Rattle.std.proofs.Common.{◌≡◌, ℕ, ◌-◌, ◌%◌, ◌^◌, ◌≤◌, length}
+use Rattle.std.proofs.Common.{◌≡◌, ℕ, ◌-◌, ◌%◌, length}
 use Rattle.device.specs.Disk.{Shown}
 use Rattle.journal.specs.Log.{log}
 use Rattle.journal.specs.Notes.{Noted}
