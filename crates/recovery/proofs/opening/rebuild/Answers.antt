@@ -1,5 +1,5 @@
 -- Homes first, then the records.
-use Rattle.std.proofs.Common.{◌≡◌, ℕ, length, ◌∙◌, subst}
+use Rattle.std.proofs.Common.{ℕ, ◌∙◌, subst}
 use Rattle.device.specs.Disk.{Disk}
 use Rattle.recovery.specs.Reading.{ReplayedAll}
 use Rattle.recovery.proofs.Rebuilding.{rebuilt}

@@ -1,5 +1,5 @@
 -- The page is what its home shows.
-use Rattle.std.proofs.Common.{◌≡◌, ℕ, Bool, cond, List, replicate, subst, ◌∙◌, arith}
+use Rattle.std.proofs.Common.{◌≡◌, ℕ, cond, replicate, subst, arith}
 use Rattle.recovery.specs.Reading.{Fetched}
 use Rattle.recovery.proofs.Homes.{home_loaded}
 use Rattle.recovery.proofs.reading.load_home.Goals as goal

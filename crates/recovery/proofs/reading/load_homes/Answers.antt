@@ -1,5 +1,5 @@
 -- Each turn loads one page more.
-use Rattle.std.proofs.Common.{◌≡◌, ◌+◌, true, false, get_or, sym, ◌∙◌, subst, arith}
+use Rattle.std.proofs.Common.{◌≡◌, ◌+◌, true, false, sym, ◌∙◌, subst, arith}
 use Rattle.std.proofs.lemmas.Bool.{both_ways}
 use Rattle.device.specs.Disk.{Disk, spoiled}
 use Rattle.journal.specs.Pages.{covered_in}

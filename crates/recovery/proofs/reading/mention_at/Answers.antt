@@ -1,14 +1,12 @@
 -- What the label says is what the record says.
-use Rattle.std.proofs.Common.{◌≡◌, ℕ, List, eqb, length, sym, ap, ◌∙◌, subst, rules}
+use Rattle.std.proofs.Common.{◌≡◌, ℕ, List, eqb, sym, ap, ◌∙◌, subst, rules}
 use Rattle.record.specs.Entry.{Entry, reads_as}
 use Rattle.record.specs.Label.{Passed}
 use Rattle.record.specs.declared.label.Label.{Label}
-use Rattle.record.specs.Kind.{code_of}
 use Rattle.record.proofs.Laws.{good_size}
 use Rattle.device.specs.Disk.{holds}
-use Rattle.journal.specs.Log.{said, if_serial}
+use Rattle.journal.specs.Log.{said}
 use Rattle.journal.proofs.Places.{said_good, said_bad, serial_here, serial_else, serial_nothing}
-use Rattle.recovery.specs.declared.reading.Mention.{Mention}
 use Rattle.recovery.specs.Reading.{Says}
 use Rattle.recovery.proofs.reading.mention_at.Goals as goal
 

@@ -1,8 +1,7 @@
 -- Each turn applies one record more; the last is applied after them, and its sector is in the buffer.
-use Rattle.std.proofs.Common.{◌≡◌, ℕ, ◌+◌, ◌-◌, ◌%◌, ◌<◌, ◌≤◌, List, length, get_or, refl, sym, ap, ◌∙◌, subst, arith}
+use Rattle.std.proofs.Common.{◌≡◌, ℕ, ◌+◌, ◌-◌, ◌≤◌, length, get_or, refl, sym, ap, ◌∙◌, arith}
 use Rattle.std.proofs.lemmas.Result.{err_from_is_err_and}
-use Rattle.device.specs.Disk.{Disk}
-use Rattle.journal.specs.Log.{log, said}
+use Rattle.journal.specs.Log.{log}
 use Rattle.journal.specs.Memory.{replayed}
 use Rattle.journal.specs.Opening.{Here}
 use Rattle.journal.proofs.Places.{kept}
