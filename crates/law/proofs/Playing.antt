@@ -1,6 +1,7 @@
 -- What each call of a script makes of where the script stands.
-use Rattle.std.proofs.Common.{◌≡◌, ℕ, zero, suc, ◌-◌, Bool, true, false, not, ◌&&◌, leb, arith, List, [], ◌∷◌, ◌++◌, length, take, drop, get_or, ◌<◌, slice_get, slice_set, Some, None, Ok, Err, Option, Result, sym, refl, ap, ◌∙◌, subst, Bor}
-use Rattle.std.proofs.lemmas.Bool.{both_ways}
+use Rattle.std.proofs.Common.{◌≡◌, ℕ, zero, suc, ◌-◌, Bool, true, false, not, ◌&&◌, leb, arith, List, [], ◌∷◌, ◌++◌, length, take, drop, ◌+◌, ◌<◌, ◌≤◌, inl, inr, ⊎_elim, slice_get, slice_set, Some, None, Ok, Err, Option, Result, sym, refl, ap, ◌∙◌, subst, Bor}
+use Rattle.std.proofs.lemmas.Bool.{and_left, and_right, le-leb, lt-leb}
+use Rattle.std.proofs.lemmas.List.{drop-drop}
 use Rattle.std.specs.Prelude.{MatchBool, is_some, option_and_then}
 use Rattle.device.specs.Disk.{Disk}
 use Rattle.device.specs.Trace.{Act}
@@ -12,7 +13,7 @@ use Rattle.law.specs.declared.script.Call as scripts
 use Rattle.law.specs.declared.script.Answer.{Answer}
 use Rattle.law.specs.declared.script.Answer.TheVariants as told
 use Rattle.law.specs.Events.{Moment, working, closed, Call, format, opening, close, begin, set_range, write, read, commit, abort, flush, truncate, Event, Happens}
-use Rattle.law.specs.Run.{Places, token_at, Stage, stage, NotMade, Made, begun, told_begun, is_free, fits, MadeAs, Steps, StepsOn}
+use Rattle.law.specs.Run.{Places, token_at, Stage, stage, NotMade, Made, begun, told_begun, is_free, fits, MadeAs, Steps, StepsOn, Does, Starts}
 use Rattle.law.proofs.Tracing.{commit_tried, flush_tried, truncate_tried, format_tried, opening_tried}
 
 -- made, or not
@@ -133,31 +134,88 @@ set_none (None ∷ places) zero e = refl
 set_none (Some t ∷ places) zero e = absurd (let z : ◌≡◌ {A = ℕ} 0 1 = cc in omega arith)
 set_none (x ∷ places) (suc i) e = ap (λ (ys : Places). x ∷ ys) (set_none places i e)
 
--- nothing is taken out of a place that holds no token
-pub nothing_taken : (call : scripts.Call) (h : Held) (places left : Places) (i : ℕ) (buffer : List ℕ) → token_at places i ≡ None → left ≡ slice_set places i None
-    → fits call (stage (working h) places buffer) ≡ is_some (token_at places i) → StepsOn call h places buffer told.NotMade h left buffer
-nothing_taken call h places left i buffer none same fit =
-    subst (λ (ps : Places). StepsOn call h places buffer told.NotMade h ps buffer) (sym (same ∙ set_none places i none))
-    (passed call (stage (working h) places buffer) (fit ∙ ap is_some none))
-
 -- the same call by another name
 pub steps_as : (call call' : scripts.Call) (w w' : Stage) (a : Answer) → call ≡ call' → Steps call' w a w' → Steps call w a w'
 steps_as call call' w w' a e h = subst (λ (x : scripts.Call). Steps x w a w') (sym e) h
 
--- what is in a place that is there
+-- what a call does is its step
 
-pub token_there : (places : Places) (i : ℕ) (t : Token) → get_or places i None ≡ Some t → token_at places i ≡ Some t
-token_there [] i t e = absurd (let z : ◌≡◌ {A = ℕ} 0 1 = cc in omega arith)
-token_there (x ∷ places) zero t e = e
-token_there (x ∷ places) (suc i) t e = token_there places i t e
+told_as : (call : scripts.Call) (w w' : Stage) (a b : Answer) → a ≡ b → Steps call w b w' → Steps call w a w'
+told_as call w w' a b e h = subst (λ (x : Answer). Steps call w x w') (sym e) h
 
-pub no_token : (places : Places) (i : ℕ) → i < length places → get_or places i None ≡ None → is_some (token_at places i) ≡ false
-no_token [] i there e = refl
-no_token (x ∷ places) zero there e = ap is_some e
-no_token (x ∷ places) (suc i) there e = no_token places i (omega arith) e
+left_as : (call : scripts.Call) (w v w' : Stage) (a : Answer) → w' ≡ v → Steps call w a v → Steps call w a w'
+left_as call w v w' a e h = subst (λ (x : Stage). Steps call w a x) (sym e) h
 
-pub free : (places : Places) (i : ℕ) → i < length places → is_some (get_or places i None) ≡ false → is_free places i ≡ true
-free [] i there e = absurd (omega arith)
-free (None ∷ places) zero there e = refl
-free (Some t ∷ places) zero there e = absurd (both_ways true e refl)
-free (x ∷ places) (suc i) there e = free places i (omega arith) e
+same_stage : (h k : Held) (ps qs : Places) (b c : List ℕ) → k ≡ h → qs ≡ ps → c ≡ b → stage (working k) qs c ≡ stage (working h) ps b
+same_stage h k ps qs b c e f g = cc
+
+not_made : (call : scripts.Call) (h k : Held) (ps qs : Places) (b c : List ℕ) (a : Answer) → fits call (stage (working h) ps b) ≡ false → a ≡ told.NotMade → k ≡ h → qs ≡ ps → c ≡ b → StepsOn call h ps b a k qs c
+not_made call h k ps qs b c a fit same e f g =
+    left_as call (stage (working h) ps b) (stage (working h) ps b) (stage (working k) qs c) a (same_stage h k ps qs b c e f g)
+    (told_as call (stage (working h) ps b) (stage (working h) ps b) a told.NotMade same (passed call (stage (working h) ps b) fit))
+
+left_so : (call : scripts.Call) (h k : Held) (ps qs qs' : Places) (b c c' : List ℕ) (a a' : Answer) → a ≡ a' → qs ≡ qs' → c ≡ c' → StepsOn call h ps b a' k qs' c' → StepsOn call h ps b a k qs c
+left_so call h k ps qs qs' b c c' a a' e f g step =
+    left_as call (stage (working h) ps b) (stage (working k) qs' c') (stage (working k) qs c) a (same_stage k k qs' qs c' c refl f g)
+    (told_as call (stage (working h) ps b) (stage (working k) qs' c') a a' e step)
+
+pub does_step : (call : scripts.Call) (h k : Held) (ps qs : Places) (b c : List ℕ) (a : Answer) → Does call h ps b a k qs c → StepsOn call h ps b a k qs c
+does_step script.Format h k ps qs b c a (same, e, f, g) = not_made script.Format h k ps qs b c a refl same e f g
+does_step script.Open h k ps qs b c a (same, e, f, g) = not_made script.Open h k ps qs b c a refl same e f g
+does_step script.Close h k ps qs b c a does = absurd does
+does_step (script.Begin i) h k ps qs b c a (inl (free, r, same, does, f), g) =
+    left_so (script.Begin i) h k ps qs (begun ps i r) b c b a (told_begun r) same f g (begins h k i r ps b free does)
+does_step (script.Begin i) h k ps qs b c a (inr (taken, same, e, f), g) = not_made (script.Begin i) h k ps qs b c a taken same e f g
+does_step (script.SetRange i start size) h k ps qs b c a (inl (t, there, (r, same, does)), f, g) =
+    left_so (script.SetRange i start size) h k ps qs ps b c b a (told.Declared r) same f g (declares h k i start size t r ps b there does)
+does_step (script.SetRange i start size) h k ps qs b c a (inr (none, same, e), f, g) =
+    not_made (script.SetRange i start size) h k ps qs b c a (ap is_some none) same e f g
+does_step (script.Write i start bytes) h k ps qs b c a (inl (t, there, (r, same, does)), f, g) =
+    left_so (script.Write i start bytes) h k ps qs ps b c b a (told.Written r) same f g (puts h k i start bytes t r ps b there does)
+does_step (script.Write i start bytes) h k ps qs b c a (inr (none, same, e), f, g) =
+    not_made (script.Write i start bytes) h k ps qs b c a (ap is_some none) same e f g
+does_step (script.Read start first end) h k ps qs b c a (inl (from, within, r, bytes, same, does, g), e, f) =
+    let rest : drop (end - first) (drop first b) ≡ drop end b = drop-drop (end - first) first b ∙ ap (λ (j : ℕ). drop j b) (whole first end from) in
+    let filled : c ≡ take first b ++ (bytes ++ drop end b) = g ∙ ap (λ (ys : List ℕ). take first b ++ (bytes ++ ys)) rest in
+    subst (λ (x : Held). StepsOn (script.Read start first end) h ps b a x qs c) (sym e)
+    (left_so (script.Read start first end) h h ps qs ps b c (take first b ++ (bytes ++ drop end b)) a (told.Read r) same f filled
+    (reads h start first end r ps b bytes (le-leb first end from) (le-leb end (length b) within) does))
+  where
+    whole : (first end : ℕ) → first ≤ end → first + (end - first) ≡ end
+    whole first end h = omega arith
+does_step (script.Read start first end) h k ps qs b c a (inr (outside, same, g), e, f) =
+    not_made (script.Read start first end) h k ps qs b c a
+    (⊎_elim
+    (λ (over : end < first). and_left (leb first end) (leb end (length b)) (lt-leb first end over))
+    (λ (past : length b < end). and_right (leb first end) (leb end (length b)) (lt-leb end (length b) past))
+    outside) same e f g
+does_step (script.Commit i flushed) h k ps qs b c a (inl (t, there, (r, same, does)), f, g) =
+    left_so (script.Commit i flushed) h k ps qs (slice_set ps i None) b c b a (told.Committed r) same f g (commits h k i flushed t r ps b there does)
+does_step (script.Commit i flushed) h k ps qs b c a (inr (none, same, e), f, g) =
+    not_made (script.Commit i flushed) h k ps qs b c a (ap is_some none) same e (f ∙ set_none ps i none) g
+does_step (script.Abort i) h k ps qs b c a (inl (t, there, (r, same, does)), f, g) =
+    left_so (script.Abort i) h k ps qs (slice_set ps i None) b c b a (told.Aborted r) same f g (aborts h k i t r ps b there does)
+does_step (script.Abort i) h k ps qs b c a (inr (none, same, e), f, g) =
+    not_made (script.Abort i) h k ps qs b c a (ap is_some none) same e (f ∙ set_none ps i none) g
+does_step script.Flush h k ps qs b c a ((r, same, does), f, g) = left_so script.Flush h k ps qs ps b c b a (told.Flushed r) same f g (flushes h k r ps b does)
+does_step script.Truncate h k ps qs b c a ((r, same, does), f, g) = left_so script.Truncate h k ps qs ps b c b a (told.Truncated r) same f g (truncates h k r ps b does)
+
+idle : (call : scripts.Call) (d : Disk) (a : Answer) (m : Moment) (ps : Places) (b : List ℕ) → fits call (stage (closed d) ps b) ≡ false → (a ≡ told.NotMade) × (m ≡ closed d) → Steps call (stage (closed d) ps b) a (stage m ps b)
+idle call d a m ps b fit (same, e) =
+    left_as call (stage (closed d) ps b) (stage (closed d) ps b) (stage m ps b) a (ap (λ (x : Moment). stage x ps b) e)
+    (told_as call (stage (closed d) ps b) (stage (closed d) ps b) a told.NotMade same (passed call (stage (closed d) ps b) fit))
+
+pub starts_step : (call : scripts.Call) (d : Disk) (a : Answer) (m : Moment) (ps : Places) (b : List ℕ) → Starts call d a m → Steps call (stage (closed d) ps b) a (stage m ps b)
+starts_step script.Format d a (working k) ps b (r, same, h) = told_as script.Format (stage (closed d) ps b) (stage (working k) ps b) a (told.Formatted r) same (formats d k r ps b h)
+starts_step script.Format d a (closed e) ps b (r, same, h) = absurd h
+starts_step script.Open d a (working k) ps b (r, same, h) = told_as script.Open (stage (closed d) ps b) (stage (working k) ps b) a (told.Opened r) same (opens d k r ps b h)
+starts_step script.Open d a (closed e) ps b (r, same, h) = absurd h
+starts_step script.Close d a m ps b h = idle script.Close d a m ps b refl h
+starts_step (script.Begin i) d a m ps b h = idle (script.Begin i) d a m ps b refl h
+starts_step (script.SetRange i start size) d a m ps b h = idle (script.SetRange i start size) d a m ps b refl h
+starts_step (script.Write i start bytes) d a m ps b h = idle (script.Write i start bytes) d a m ps b refl h
+starts_step (script.Read start first end) d a m ps b h = idle (script.Read start first end) d a m ps b refl h
+starts_step (script.Commit i flushed) d a m ps b h = idle (script.Commit i flushed) d a m ps b refl h
+starts_step (script.Abort i) d a m ps b h = idle (script.Abort i) d a m ps b refl h
+starts_step script.Flush d a m ps b h = idle script.Flush d a m ps b refl h
+starts_step script.Truncate d a m ps b h = idle script.Truncate d a m ps b refl h

@@ -1,18 +1,18 @@
 // The calls of a script on a store that works, one at a time.
-ghost use Rattle.law.specs.Run.{Places, StepsOn};
-ghost use Rattle.std.specs.Prelude.{List, ℕ, ◌≢◌};
+ghost use Rattle.law.specs.Run.{Begun, Declared, Written, Committed, Aborted, Read, Flushed, Truncated, Does};
+ghost use Rattle.std.specs.Prelude.{◌≡◌, ◌≢◌, None, slice_set};
 ghost use Rattle.transactions.specs.Held.{held};
 
 use crate::script::{Answer, Call};
-use crate::tokens::{put, take};
+use crate::tokens::{is_free, put, shown, take};
 use device::Device;
 use transactions::{Store, Token};
 
 // Begins a transaction, where the place is there and empty.
 fn begin<D: Device>(store: &mut Store<D>, places: &mut [Option<Token>], place: usize) -> Answer
-    ensures { (buffer : List ℕ) → StepsOn (Call.Begin place) (held store.old) places.old buffer result (held store.new) places.new buffer }
+    ensures { Begun places.old place (held store.old) result (held store.new) places.new }
 {
-    if place >= places.len() || places[place].is_some() {
+    if !is_free(places, place) {
         return Answer::NotMade;
     }
     match store.begin() {
@@ -32,12 +32,9 @@ fn set_range<D: Device>(
     start: usize,
     size: usize,
 ) -> Answer
-    ensures { (buffer : List ℕ) → StepsOn (Call.SetRange place start size) (held store.old) places.now buffer result (held store.new) places.now buffer }
+    ensures { Declared places.now place start size (held store.old) result (held store.new) }
 {
-    if place >= places.len() {
-        return Answer::NotMade;
-    }
-    match &places[place] {
+    match shown(places, place) {
         Some(token) => Answer::Declared(store.set_range(token, start, size)),
         None => Answer::NotMade,
     }
@@ -50,12 +47,9 @@ fn write<D: Device>(
     start: usize,
     bytes: &[u8],
 ) -> Answer
-    ensures { (buffer : List ℕ) → StepsOn (Call.Write place start bytes.entry) (held store.old) places.now buffer result (held store.new) places.now buffer }
+    ensures { Written places.now place start bytes.now (held store.old) result (held store.new) }
 {
-    if place >= places.len() {
-        return Answer::NotMade;
-    }
-    match &places[place] {
+    match shown(places, place) {
         Some(token) => Answer::Written(store.write(token, start, bytes)),
         None => Answer::NotMade,
     }
@@ -68,7 +62,7 @@ fn read<D: Device>(
     first: usize,
     end: usize,
 ) -> Answer
-    ensures { (places : Places) → StepsOn (Call.Read start first end) (held store.now) places buffer.old result (held store.now) places buffer.new }
+    ensures { Read start first end (held store.now) buffer.old result buffer.new }
 {
     if first > end || end > buffer.len() {
         return Answer::NotMade;
@@ -82,7 +76,8 @@ fn commit<D: Device>(
     place: usize,
     flush: bool,
 ) -> Answer
-    ensures { (buffer : List ℕ) → StepsOn (Call.Commit place flush) (held store.old) places.old buffer result (held store.new) places.new buffer }
+    ensures commits { Committed places.old place flush (held store.old) result (held store.new) }
+    ensures taken { places.new ≡ slice_set places.old place None }
 {
     match take(places, place) {
         Some(token) => Answer::Committed(store.commit(token, flush)),
@@ -91,7 +86,8 @@ fn commit<D: Device>(
 }
 
 fn abort<D: Device>(store: &mut Store<D>, places: &mut [Option<Token>], place: usize) -> Answer
-    ensures { (buffer : List ℕ) → StepsOn (Call.Abort place) (held store.old) places.old buffer result (held store.new) places.new buffer }
+    ensures aborts { Aborted places.old place (held store.old) result (held store.new) }
+    ensures taken { places.new ≡ slice_set places.old place None }
 {
     match take(places, place) {
         Some(token) => Answer::Aborted(store.abort(token)),
@@ -100,13 +96,13 @@ fn abort<D: Device>(store: &mut Store<D>, places: &mut [Option<Token>], place: u
 }
 
 fn flush<D: Device>(store: &mut Store<D>) -> Answer
-    ensures { (places : Places) (buffer : List ℕ) → StepsOn Call.Flush (held store.old) places buffer result (held store.new) places buffer }
+    ensures { Flushed (held store.old) result (held store.new) }
 {
     Answer::Flushed(store.flush())
 }
 
 fn truncate<D: Device>(store: &mut Store<D>) -> Answer
-    ensures { (places : Places) (buffer : List ℕ) → StepsOn Call.Truncate (held store.old) places buffer result (held store.new) places buffer }
+    ensures { Truncated (held store.old) result (held store.new) }
 {
     Answer::Truncated(store.truncate())
 }
@@ -119,7 +115,7 @@ pub(crate) fn deed<D: Device>(
     buffer: &mut [u8],
 ) -> Answer
     requires { call ≢ Call.Close }
-    ensures { StepsOn call.entry (held store.old) places.old buffer.old result (held store.new) places.new buffer.new }
+    ensures { Does call.entry (held store.old) places.old buffer.old result (held store.new) places.new buffer.new }
 {
     match call {
         Call::Format | Call::Open | Call::Close => Answer::NotMade,

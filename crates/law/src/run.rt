@@ -1,8 +1,7 @@
 // A run: a script worked over a device.
 ghost use Rattle.law.specs.Events.{working, closed};
 ghost use Rattle.law.specs.Law.{CrashSafe};
-ghost use Rattle.law.specs.Run.{Places, moment_of, stage, Steps, Worked, Ended, Ran};
-ghost use Rattle.std.specs.Prelude.{List, ℕ};
+ghost use Rattle.law.specs.Run.{moment_of, stage, Starts, Steps, Worked, Ended, Ran};
 ghost use Rattle.transactions.specs.Held.{held};
 
 use crate::deeds::deed;
@@ -18,7 +17,7 @@ pub enum Run<D: Device> {
 
 // Makes one call of a script on a device that lies alone.
 fn begin_on<D: Device>(device: D, call: Call) -> (Run<D>, Answer)
-    ensures { (places : Places) (buffer : List ℕ) → Steps call.entry (stage (closed (D.Device.disk device)) places buffer) result.1 (stage (moment_of result.0) places buffer) }
+    ensures { Starts call.entry (D.Device.disk device) result.1 (moment_of result.0) }
 {
     match call {
         Call::Format => {

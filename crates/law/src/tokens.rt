@@ -1,6 +1,6 @@
 // The places for tokens that a script lends.
-ghost use Rattle.law.specs.Run.{token_at};
-ghost use Rattle.std.specs.Prelude.{◌≡◌, Some, None, slice_set};
+ghost use Rattle.law.specs.Run.{token_at, is_free};
+ghost use Rattle.std.specs.Prelude.{◌≡◌, Some, None, MatchOption, slice_set};
 
 use device::Device;
 use transactions::{Store, Token};
@@ -12,6 +12,24 @@ pub(crate) fn take(places: &mut [Option<Token>], place: usize) -> Option<Token>
 {
     if place < places.len() {
         places[place].take()
+    } else {
+        None
+    }
+}
+
+// Whether a token may be put into a place.
+pub(crate) fn is_free(places: &[Option<Token>], place: usize) -> bool
+    ensures { result ≡ is_free places.now place }
+{
+    place < places.len() && places[place].is_none()
+}
+
+// Shows the token in a place.
+pub(crate) fn shown(places: &[Option<Token>], place: usize) -> Option<&Token>
+    ensures { MatchOption result (token_at places.now place ≡ None) (λ t. token_at places.now place ≡ Some t.now) }
+{
+    if place < places.len() {
+        places[place].as_ref()
     } else {
         None
     }
