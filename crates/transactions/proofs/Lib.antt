@@ -9,3 +9,4 @@ pub mod Appending
 pub mod Noting
 pub mod Tabling
 pub mod Lying
+pub mod Ruling

@@ -7,4 +7,5 @@ pub mod Calls
 pub mod Steps
 pub mod Truncation
 pub mod Pages
+pub mod Dirty
 pub mod Held

@@ -2,6 +2,8 @@
 
 #![tactic(auto)]
 
+ghost use Rattle.transactions.specs.Dirty.{PagesByRule};
+
 mod calls;
 mod changes;
 mod fault;
@@ -25,3 +27,9 @@ pub use spool::{Spool, Spooled};
 pub use state::State;
 pub use store::Store;
 pub use token::Token;
+
+// Names the theorem that a page is among the dirty ones just where a record that is live or waits names it, and among
+// the due ones where none covers it too; each is there once, the lowest first.
+pub fn pages_are_by_rule()
+    ensures { PagesByRule }
+{}
