@@ -24,7 +24,9 @@ fn zero_all<D: Device>(device: &mut D, sectors: usize) -> Result<(), DeviceFault
     Ok(())
 }
 
-// Writes a record in its place of a log that lies on the device. A log with no places has none for it.
+// Writes a record in its place of a log that lies on the device. A log with no places has none for it. Inlined, since
+// each caller knows the kind of its record, and the other kinds then fall away.
+#[inline(always)]
 pub fn write_record<D: Device>(
     device: &mut D,
     places: usize,
@@ -39,6 +41,7 @@ pub fn write_record<D: Device>(
 }
 
 // Writes a record over a sector.
+#[inline(always)]
 fn write_at<D: Device>(device: &mut D, sector: usize, record: Record) -> Result<(), DeviceFault>
     ensures { sector < (D.Device.disk device.old).plate.sectors → Fitting (entry «record».entry) → Tries (D.Device.disk device.old) (wrote sector (laid_out (entry «record».entry)) ∷ []) result (D.Device.disk device.new) }
 {
