@@ -1,5 +1,5 @@
 -- How a store and its device stand with what has been entered, where so many of the first are counted as kept.
-use Rattle.std.specs.Prelude.{◌≡◌, ℕ, ◌+◌, ◌<◌, ◌≤◌, Bool, true, false, cond, ◌⊎◌, List, [], ◌∷◌, ◌++◌, length, take, drop, slice_index}
+use Rattle.std.specs.Prelude.{◌≡◌, ℕ, ◌+◌, ◌<◌, ◌≤◌, Bool, true, false, cond, ◌⊎◌, List, [], ◌∷◌, length, take, drop, slice_index}
 use Rattle.arrayvec.specs.ArrayVec.{array_vec_len}
 use Rattle.device.specs.Disk.{Disk, Shown}
 use Rattle.device.specs.Meaning.{Quiet}

@@ -1,37 +1,35 @@
 -- Each event keeps the law, and so every chain does.
-use Rattle.std.proofs.Common.{◌≡◌, ℕ, zero, suc, ◌+◌, ◌-◌, ◌<◌, ◌≤◌, Bool, true, false, cond, not, ◌&&◌, eqb, leb, ◌⊎◌, List, [], ◌∷◌, ◌++◌, map, length, replicate, get_or, take, drop, Some, None, Ok, Err, Option, Result, sym, refl, ap, ◌∙◌, subst, inl, inr, ⊎_elim, arith}
+use Rattle.std.proofs.Common.{◌≡◌, ℕ, zero, suc, ◌+◌, ◌-◌, ◌≤◌, Bool, true, false, cond, not, ◌&&◌, eqb, leb, ◌⊎◌, List, [], ◌∷◌, ◌++◌, map, length, replicate, take, drop, Some, None, Ok, Err, Option, Result, sym, refl, ap, ◌∙◌, subst, inl, inr, ⊎_elim, arith}
 use Rattle.arrayvec.specs.ArrayVec.{array_vec_len}
 use Rattle.std.proofs.lemmas.Bool.{both_ways, cases_Bool, cond-true, cond-false, and_parts, eqb-true}
 use Rattle.std.proofs.lemmas.List.{append-nil, append_assoc, length-append, length-map, take-map, drop-map, drop_all}
-use Rattle.device.specs.Disk.{Disk, Plate}
+use Rattle.device.specs.Disk.{Disk}
 use Rattle.device.specs.Trace.{Act, looked, wrote, settled, restarted}
 use Rattle.durability.specs.Items.{Item, appending}
 use Rattle.image.specs.Calls.{declared, none}
 use Rattle.image.proofs.Cutting.{runs_lay, runs_fit, runs_none}
-use Rattle.recovery.specs.Clearing.{astray, blanking, clearing}
-use Rattle.recovery.specs.Opening.{Divides}
+use Rattle.recovery.specs.Clearing.{astray, blanking}
 use Rattle.transactions.specs.declared.fault.StoreFault.{StoreFault}
 use Rattle.transactions.specs.declared.state.State.{State}
-use Rattle.transactions.specs.declared.token.Token.{Token}
 use Rattle.transactions.specs.Calls.{writing}
 use Rattle.transactions.specs.Fault.{number}
-use Rattle.transactions.specs.Held.{Held, Formatted, Opened, Begins, SetsRange, WritesRange, ReadsRange, Commits, Aborts, Flushes, Truncates}
+use Rattle.transactions.specs.Held.{Held, Formatted, Opened, Commits, Flushes, Truncates}
 use Rattle.transactions.specs.Rows.{first_fit, token_rows, commit_rows}
 use Rattle.transactions.specs.State.{spooled, own}
-use Rattle.transactions.specs.Truncation.{flushing, truncation}
+use Rattle.transactions.specs.Truncation.{truncation}
 use Rattle.law.specs.Transactions.{Transaction, made_of, batch}
 use Rattle.law.specs.Kept.{Entered, AllKept, NoneKept}
-use Rattle.law.specs.Events.{Moment, working, closed, disk_at, Call, format, opening, close, begin, set_range, write, read, commit, abort, flush, truncate, Event, Tried, FormatTried, OpeningTried, Silent, fits_none, does_enter, does_truncate, commit_plan, flush_plan, truncate_plan, Happens, Chain}
-use Rattle.law.specs.Law.{transactions, own_transaction, later, found_again, newly, entered_after, after_call, after, places_at, AllAreKept, Finds, OpensLawfully, LawfulCall, Lawful, AllLawful, CrashSafe}
+use Rattle.law.specs.Events.{Moment, working, closed, disk_at, Call, format, opening, close, begin, set_range, write, read, commit, abort, flush, truncate, Event, Tried, OpeningTried, Silent, fits_none, does_enter, does_truncate, commit_plan, flush_plan, truncate_plan, Happens, Chain}
+use Rattle.law.specs.Law.{transactions, own_transaction, found_again, after_call, after, places_at, Finds, Lawful, AllLawful, CrashSafe}
 use Rattle.law.proofs.History.{History, Resting, Safe, Sound, settles, with_barrier, AllCounted}
 use Rattle.law.proofs.Openings.{open_found, open_failed}
 use Rattle.law.proofs.Committing.{more_is, empty_kept}
-use Rattle.law.proofs.Cuts.{traced, settles_all}
-use Rattle.law.proofs.Standing.{rests, safe, on_stands, off_stands, same_stands, begins, shown}
+use Rattle.law.proofs.Cuts.{traced}
+use Rattle.law.proofs.Standing.{rests, safe, on_stands, off_stands, begins, shown}
 use Rattle.law.proofs.Truncated as truncated
 use Rattle.law.proofs.Steps as steps
 use Rattle.law.proofs.Settling.{AllSettled, batch_settled, first_made, settles_neither}
-use Rattle.law.proofs.Counting.{Counted, Waits, AllWait, Fresh, past, joined, wait_none, wait_further, counted, counted_kept, past_is, next_count, counted_found, transactions_found}
+use Rattle.law.proofs.Counting.{Counted, Fresh, past, joined, wait_none, wait_further, counted, counted_kept, past_is, next_count, counted_found, transactions_found}
 
 -- How a store and its device stand with what is entered, of which so many are counted as kept.
 pub record StoreStands (h : Held) (xs : List Entered) : Type 0 where

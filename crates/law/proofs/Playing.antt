@@ -1,8 +1,8 @@
 -- What each call of a script makes of where the script stands.
-use Rattle.std.proofs.Common.{◌≡◌, ℕ, zero, suc, ◌-◌, Bool, true, false, not, ◌&&◌, leb, arith, List, [], ◌∷◌, ◌++◌, length, take, drop, ◌+◌, ◌<◌, ◌≤◌, inl, inr, ⊎_elim, slice_get, slice_set, Some, None, Ok, Err, Option, Result, sym, refl, ap, ◌∙◌, subst, Bor}
+use Rattle.std.proofs.Common.{◌≡◌, ℕ, zero, suc, ◌-◌, Bool, true, false, ◌&&◌, leb, arith, List, [], ◌∷◌, ◌++◌, length, take, drop, ◌+◌, ◌<◌, ◌≤◌, inl, inr, ⊎_elim, slice_set, Some, None, Option, Result, sym, refl, ap, ◌∙◌, subst, Bor}
 use Rattle.std.proofs.lemmas.Bool.{and_left, and_right, le-leb, lt-leb}
 use Rattle.std.proofs.lemmas.List.{drop-drop}
-use Rattle.std.specs.Prelude.{MatchBool, is_some, option_and_then}
+use Rattle.std.specs.Prelude.{MatchBool, is_some}
 use Rattle.device.specs.Disk.{Disk}
 use Rattle.device.specs.Trace.{Act}
 use Rattle.transactions.specs.declared.fault.StoreFault.{StoreFault}

@@ -3,7 +3,6 @@ use Rattle.std.proofs.Common.{◌≡◌, ℕ, ◌+◌, Bool, true, false, not, �
 use Rattle.arrayvec.specs.ArrayVec.{array_vec_len}
 use Rattle.std.proofs.lemmas.Bool.{both_ways, not-false, and_parts}
 use Rattle.device.specs.Disk.{Disk}
-use Rattle.device.specs.Trace.{Act}
 use Rattle.durability.specs.Standing.{Firm}
 use Rattle.image.specs.declared.state.Image.{Image}
 use Rattle.image.specs.Calls.{declared}

@@ -1,5 +1,5 @@
 -- What each call of a store makes of how it stands with what is entered and counted as kept.
-use Rattle.std.proofs.Common.{◌≡◌, ℕ, ◌<◌, ◌≤◌, Bool, true, false, cond, not, ◌&&◌, leb, ◌≢◌, List, [], ◌∷◌, ◌++◌, length, get_or, take, Some, None, Ok, Err, Option, Result, sym, refl, ap, ◌∙◌, subst, inl, inr, arith, Bor}
+use Rattle.std.proofs.Common.{◌≡◌, ℕ, ◌≤◌, Bool, true, false, cond, not, ◌&&◌, leb, ◌≢◌, List, [], ◌∷◌, ◌++◌, length, Some, None, Ok, Err, Result, sym, refl, ap, ◌∙◌, subst, inl, inr, arith}
 use Rattle.arrayvec.specs.ArrayVec.{array_vec_len}
 use Rattle.std.proofs.lemmas.List.{length_push}
 use Rattle.std.proofs.lemmas.Bool.{both_ways, and_from, and_left, and_right, le-leb, lt-leb}
@@ -14,18 +14,16 @@ use Rattle.image.proofs.Cutting.{runs_lay, runs_fit, runs_none}
 use Rattle.transactions.specs.declared.fault.StoreFault.{StoreFault}
 use Rattle.transactions.specs.declared.state.State.{State}
 use Rattle.transactions.specs.declared.token.Token.{Token}
-use Rattle.transactions.specs.Fault.{number}
 use Rattle.transactions.specs.Rows.{first_fit, busy, token_rows, commit_rows}
-use Rattle.transactions.specs.State.{Opened, MadeOf, spooled, own}
+use Rattle.transactions.specs.State.{MadeOf, spooled, own}
 use Rattle.transactions.specs.Calls.{Begins, SetsRange, WritesRange, OnImage, Undone, Aborts, Flushes, Commits, CommitsNothing, CommitsParts, CommitCut, writing}
-use Rattle.law.specs.Transactions.{Transaction, made_of}
+use Rattle.law.specs.Transactions.{Transaction}
 use Rattle.law.specs.Events.{fits_none, does_enter, commit_plan, flush_plan}
 use Rattle.law.specs.Law.{own_transaction}
 use Rattle.law.proofs.History.{History, Resting, Sound, settles, with_barrier, AllCounted}
-use Rattle.law.proofs.Openings.{open_found, open_failed}
 use Rattle.law.proofs.Committing.{entering, all_kept, empty_kept, flush_done, flush_cut, commit_done, commit_cut, commit_spooled}
 use Rattle.law.proofs.Cuts.{Traced, none_made, done_settles, cut_settles}
-use Rattle.law.proofs.Standing.{rests, safe, same_stands, on_stands, off_stands, moved, awake, shown, asleep}
+use Rattle.law.proofs.Standing.{rests, same_stands, on_stands, off_stands, moved, awake, shown, asleep}
 
 -- the calls that don't write, on one store and device
 module _ (n : ℕ) (s s' : State) (d e : Disk) (h : History) (w : Sound n s d h) where

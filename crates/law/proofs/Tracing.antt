@@ -1,27 +1,26 @@
 -- The device calls that a call made, from what its relation says of the device.
-use Rattle.std.proofs.Common.{◌≡◌, ℕ, Bool, true, false, cond, not, ◌&&◌, leb, ◌≤◌, ◌⊎◌, List, [], ◌∷◌, ◌++◌, length, replicate, Some, None, Ok, Err, Option, Result, sym, refl, ap, ◌∙◌, subst, inl, inr, ⊎_elim, arith}
+use Rattle.std.proofs.Common.{◌≡◌, ℕ, Bool, true, false, ◌&&◌, leb, ◌≤◌, ◌⊎◌, List, [], ◌∷◌, ◌++◌, Some, None, Ok, Err, Option, Result, sym, refl, ◌∙◌, subst, inl, inr, ⊎_elim, arith}
 use Rattle.arrayvec.specs.ArrayVec.{array_vec_len}
 use Rattle.std.proofs.lemmas.Bool.{le-leb, lt-leb, and_from, and_left, and_right, cond-true, cond-false}
 use Rattle.device.specs.declared.fault.DeviceFault.TheVariants.{Power, Misaddressed, Unfit, Spoiled}
 use Rattle.device.specs.Disk.{Disk}
-use Rattle.device.specs.Meaning.{Lost, Failed, Restarted}
-use Rattle.device.specs.Trace.{Act, looked, restarted, Does, Cut, Done, CutShort}
+use Rattle.device.specs.Meaning.{Failed, Restarted}
+use Rattle.device.specs.Trace.{Act, looked, restarted, Done, CutShort}
 use Rattle.journal.specs.declared.survey.Survey.{Survey}
 use Rattle.recovery.specs.declared.fault.RecoveryFault.{RecoveryFault}
 use Rattle.recovery.specs.declared.fault.RecoveryFault.TheVariants as recovery
 use Rattle.recovery.specs.Clearing.{clearing}
 use Rattle.recovery.specs.Format.{formatting}
-use Rattle.recovery.specs.Opening.{Refuses, CutClearing, Recovers, Divides, NoRestart, Opens, Formats}
+use Rattle.recovery.specs.Opening.{CutClearing, Recovers, Divides, NoRestart, Opens, Formats}
 use Rattle.transactions.specs.declared.fault.StoreFault.{StoreFault}
 use Rattle.transactions.specs.declared.fault.StoreFault.TheVariants.{Device}
 use Rattle.transactions.specs.declared.state.State.{State}
 use Rattle.transactions.specs.Calls.{writing}
 use Rattle.transactions.specs.Fault.{from_recovery}
 use Rattle.transactions.specs.Held.{Held, Formatted, Opened, Commits, Flushes, Truncates}
-use Rattle.transactions.specs.Rows.{first_fit, token_rows, commit_rows}
 use Rattle.transactions.specs.State.{spooled, own}
 use Rattle.transactions.specs.Truncation.{truncation}
-use Rattle.law.specs.Events.{CutAt, Tried, FormatTried, OpeningTried, does_enter, does_truncate, commit_plan, flush_plan, truncate_plan}
+use Rattle.law.specs.Events.{Tried, FormatTried, OpeningTried, does_enter, does_truncate, commit_plan, flush_plan, truncate_plan}
 use Rattle.law.proofs.Cuts.{cut_at}
 use Rattle.law.proofs.Standing.{awake, asleep}
 use Rattle.law.proofs.Steps.{passing, token_fits, none_declared, room_fits}

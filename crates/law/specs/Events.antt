@@ -16,7 +16,7 @@ use Rattle.transactions.specs.declared.token.Token.{Token}
 use Rattle.transactions.specs.Calls.{writing}
 use Rattle.transactions.specs.Held.{Held, Formatted, Opened, Begins, SetsRange, WritesRange, ReadsRange, Commits, Aborts, Flushes, Truncates}
 use Rattle.transactions.specs.Rows.{first_fit, token_rows, commit_rows}
-use Rattle.transactions.specs.State.{OpenOn, spooled, own}
+use Rattle.transactions.specs.State.{spooled, own}
 use Rattle.transactions.specs.Truncation.{dirty_pages, due_pages, truncate_rows, truncation}
 
 -- A run between two calls: a store works on its device, or the device lies alone.

@@ -1,5 +1,5 @@
 -- The crash-safety law of stores: what is entered, computed from the events of a run, and what holds of each event.
-use Rattle.std.specs.Prelude.{◌≡◌, ℕ, ◌-◌, ◌<◌, ◌≤◌, Bool, true, false, cond, List, [], ◌∷◌, ◌++◌, map, length, take, drop, Some, None, Ok, Err, Option, Result, slice_index}
+use Rattle.std.specs.Prelude.{◌≡◌, ℕ, ◌-◌, ◌<◌, ◌≤◌, true, false, cond, List, [], ◌∷◌, ◌++◌, map, length, take, drop, Some, None, Ok, Err, Option, Result, slice_index}
 use Rattle.device.specs.Trace.{Act}
 use Rattle.image.specs.Calls.{declared}
 use Rattle.transactions.specs.declared.fault.StoreFault.{StoreFault}
@@ -7,7 +7,7 @@ use Rattle.transactions.specs.declared.state.State.{State}
 use Rattle.transactions.specs.Fault.{number}
 use Rattle.law.specs.Transactions.{Transaction, made_of}
 use Rattle.law.specs.Kept.{Entered, AllKept, NoneKept}
-use Rattle.law.specs.Events.{Moment, working, closed, disk_at, Call, format, opening, close, begin, set_range, write, read, commit, abort, flush, truncate, Event, does_enter, Chain}
+use Rattle.law.specs.Events.{Moment, working, closed, disk_at, Call, format, opening, commit, flush, truncate, Event, does_enter, Chain}
 
 -- What is entered, in the order of the commits. Nothing is known of a device until a format of it succeeds.
 abbrev pub History : Type 0

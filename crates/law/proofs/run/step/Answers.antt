@@ -1,6 +1,6 @@
 -- By whether a store works.
 use Rattle.std.proofs.Common.{ap, sym, subst}
-use Rattle.law.specs.Events.{Moment, closed}
+use Rattle.law.specs.Events.{Moment}
 use Rattle.law.specs.Run.{moment_of, stage, Steps}
 use Rattle.law.proofs.Playing.{starts_step}
 use Rattle.law.proofs.run.step.Goals as goal
