@@ -13,7 +13,8 @@ use Rattle.law.specs.declared.script.Call as scripts
 use Rattle.law.specs.declared.script.Answer.{Answer}
 use Rattle.law.specs.declared.script.Answer.TheVariants as told
 use Rattle.law.specs.Events.{Moment, working, closed, Call, format, opening, close, begin, set_range, write, read, commit, abort, flush, truncate, Event, Happens}
-use Rattle.law.specs.Run.{Places, token_at, Stage, stage, NotMade, Made, begun, told_begun, is_free, fits, MadeAs, Steps, StepsOn, Does, Starts}
+use Rattle.law.specs.Run.{Places, token_at, Stage, stage, NotMade, Made, begun, told_begun, is_free, fits, MadeAs, Steps, StepsOn}
+use Rattle.law.specs.Deeds.{Does, Starts}
 use Rattle.law.proofs.Tracing.{commit_tried, flush_tried, truncate_tried, format_tried, opening_tried}
 
 -- made, or not

@@ -4,3 +4,4 @@ pub mod Kept
 pub mod Events
 pub mod Law
 pub mod Run
+pub mod Deeds

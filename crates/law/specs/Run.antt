@@ -1,11 +1,11 @@
 -- What a run of a script does: its calls are events, one after another, over a device that it is given and gives back.
-use Rattle.std.specs.Prelude.{◌≡◌, ℕ, ◌-◌, ◌<◌, ◌≤◌, ◌⊎◌, min, Bool, true, false, not, MatchBool, ◌&&◌, List, [], ◌∷◌, ◌++◌, length, take, drop, slice_get, slice_set, Some, None, Ok, Err, Option, Result, nat_le, is_some, is_none, option_and_then}
+use Rattle.std.specs.Prelude.{◌≡◌, ℕ, ◌-◌, min, Bool, true, false, not, MatchBool, ◌&&◌, List, [], ◌∷◌, ◌++◌, length, take, drop, slice_get, slice_set, Some, None, Ok, Err, Option, Result, nat_le, is_some, is_none, option_and_then}
 use Rattle.device.specs.Disk.{Disk}
 use Rattle.device.specs.declared.Device.{Ghosts}
 use Rattle.device.specs.Trace.{Act}
 use Rattle.transactions.specs.declared.fault.StoreFault.{StoreFault}
 use Rattle.transactions.specs.declared.token.Token.{Token}
-use Rattle.transactions.specs.Held.{Held, held, Formatted, Opened, Begins, SetsRange, WritesRange, ReadsRange, Commits, Aborts, Flushes, Truncates}
+use Rattle.transactions.specs.Held.{Held, held}
 use Rattle.law.specs.declared.run.Run.{Run}
 use Rattle.law.specs.declared.run.Run.TheVariants.{Working, Closed}
 use Rattle.law.specs.declared.script.Call.TheVariants as script
@@ -117,71 +117,6 @@ Steps call w a w' = (es : List Event) × Plays call w a es w'
 -- A store works before it and after it.
 abbrev pub StepsOn : scripts.Call → Held → Places → List ℕ → Answer → Held → Places → List ℕ → Type 0
 StepsOn call h places buffer a k places' buffer' = Steps call (stage (working h) places buffer) a (stage (working k) places' buffer')
-
--- What the calls of a script do on a store that works, before that is told as an event. One that is shown a token or
--- takes it is not made without it.
-abbrev pub WithToken : Places → ℕ → (Token → Type 0) → Held → Answer → Held → Type 0
-WithToken places i does h a k =
-    ((t : Token) × (token_at places i ≡ Some t) × does t) ⊎ ((token_at places i ≡ None) × (a ≡ told.NotMade) × (k ≡ h))
-
-abbrev pub Begun : Places → ℕ → Held → Answer → Held → Places → Type 0
-Begun places i h a k places' =
-    ((is_free places i ≡ true) × (r : Result Token StoreFault) × (a ≡ told_begun r) × Begins h r k × (places' ≡ begun places i r))
-    ⊎ ((is_free places i ≡ false) × (a ≡ told.NotMade) × (k ≡ h) × (places' ≡ places))
-
-abbrev pub Declared : Places → ℕ → ℕ → ℕ → Held → Answer → Held → Type 0
-Declared places i start size h a k =
-    WithToken places i (λ t. (r : Result (Unit {0}) StoreFault) × (a ≡ told.Declared r) × SetsRange t.number start size h r k) h a k
-
-abbrev pub Written : Places → ℕ → ℕ → List ℕ → Held → Answer → Held → Type 0
-Written places i start bytes h a k =
-    WithToken places i (λ t. (r : Result (Unit {0}) StoreFault) × (a ≡ told.Written r) × WritesRange t.number start bytes h r k) h a k
-
-abbrev pub Committed : Places → ℕ → Bool → Held → Answer → Held → Type 0
-Committed places i flushed h a k =
-    WithToken places i (λ t. (r : Result (ℕ × ℕ) StoreFault) × (a ≡ told.Committed r) × Commits t.number flushed h r k) h a k
-
-abbrev pub Aborted : Places → ℕ → Held → Answer → Held → Type 0
-Aborted places i h a k =
-    WithToken places i (λ t. (r : Result (Unit {0}) StoreFault) × (a ≡ told.Aborted r) × Aborts t.number h r k) h a k
-
-abbrev pub Read : ℕ → ℕ → ℕ → Held → List ℕ → Answer → List ℕ → Type 0
-Read start first end h buffer a buffer' =
-    ((first ≤ end) × (end ≤ length buffer) × (r : Result (Unit {0}) StoreFault) × (bytes : List ℕ) × (a ≡ told.Read r)
-    × ReadsRange start h (take (end - first) (drop first buffer)) r bytes
-    × (buffer' ≡ take first buffer ++ (bytes ++ drop (end - first) (drop first buffer))))
-    ⊎ (((end < first) ⊎ (length buffer < end)) × (a ≡ told.NotMade) × (buffer' ≡ buffer))
-
-abbrev pub Flushed : Held → Answer → Held → Type 0
-Flushed h a k = (r : Result ℕ StoreFault) × (a ≡ told.Flushed r) × Flushes h r k
-
-abbrev pub Truncated : Held → Answer → Held → Type 0
-Truncated h a k = (r : Result ℕ StoreFault) × (a ≡ told.Truncated r) × Truncates h r k
-
--- All but a close, which gives the store up.
-abbrev pub Does : scripts.Call → Held → Places → List ℕ → Answer → Held → Places → List ℕ → Type 0
-Does script.Format h ps b a k ps' b' = (a ≡ told.NotMade) × (k ≡ h) × (ps' ≡ ps) × (b' ≡ b)
-Does script.Open h ps b a k ps' b' = (a ≡ told.NotMade) × (k ≡ h) × (ps' ≡ ps) × (b' ≡ b)
-Does script.Close h ps b a k ps' b' = ⊥
-Does (script.Begin i) h ps b a k ps' b' = Begun ps i h a k ps' × (b' ≡ b)
-Does (script.SetRange i start size) h ps b a k ps' b' = Declared ps i start size h a k × (ps' ≡ ps) × (b' ≡ b)
-Does (script.Write i start bytes) h ps b a k ps' b' = Written ps i start bytes.now h a k × (ps' ≡ ps) × (b' ≡ b)
-Does (script.Read start first end) h ps b a k ps' b' = Read start first end h b a b' × (k ≡ h) × (ps' ≡ ps)
-Does (script.Commit i flushed) h ps b a k ps' b' = Committed ps i flushed h a k × (ps' ≡ slice_set ps i None) × (b' ≡ b)
-Does (script.Abort i) h ps b a k ps' b' = Aborted ps i h a k × (ps' ≡ slice_set ps i None) × (b' ≡ b)
-Does script.Flush h ps b a k ps' b' = Flushed h a k × (ps' ≡ ps) × (b' ≡ b)
-Does script.Truncate h ps b a k ps' b' = Truncated h a k × (ps' ≡ ps) × (b' ≡ b)
-
--- A store works then, and this holds of it.
-abbrev pub WorksThen : Moment → (Held → Type 0) → Type 0
-WorksThen (working k) holds = holds k
-WorksThen (closed d) holds = ⊥
-
--- On a device that lies alone, only a format and an opening do something.
-abbrev pub Starts : scripts.Call → Disk → Answer → Moment → Type 0
-Starts script.Format d a m = (r : Result (Unit {0}) StoreFault) × (a ≡ told.Formatted r) × WorksThen m (λ k. Formatted d r k)
-Starts script.Open d a m = (r : Result (ℕ × ℕ) StoreFault) × (a ≡ told.Opened r) × WorksThen m (λ k. Opened d r k)
-Starts _ d a m = (a ≡ told.NotMade) × (m ≡ closed d)
 
 -- The calls of a script with their answers, one after another, and their events.
 abbrev pub Played : List scripts.Call → List Answer → Stage → List Event → Stage → Type 0

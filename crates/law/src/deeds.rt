@@ -1,5 +1,5 @@
 // The calls of a script on a store that works, one at a time.
-ghost use Rattle.law.specs.Run.{Begun, Declared, Written, Committed, Aborted, Read, Flushed, Truncated, Does};
+ghost use Rattle.law.specs.Deeds.{DoesBegin, DoesDeclare, DoesWrite, DoesCommit, DoesAbort, DoesRead, DoesFlush, DoesTruncate, Does};
 ghost use Rattle.std.specs.Prelude.{◌≡◌, ◌≢◌, None, slice_set};
 ghost use Rattle.transactions.specs.Held.{held};
 
@@ -10,7 +10,7 @@ use transactions::{Store, Token};
 
 // Begins a transaction, where the place is there and empty.
 fn begin<D: Device>(store: &mut Store<D>, places: &mut [Option<Token>], place: usize) -> Answer
-    ensures { Begun places.old place (held store.old) result (held store.new) places.new }
+    ensures { DoesBegin places.old place (held store.old) result (held store.new) places.new }
 {
     if !is_free(places, place) {
         return Answer::NotMade;
@@ -32,7 +32,7 @@ fn set_range<D: Device>(
     start: usize,
     size: usize,
 ) -> Answer
-    ensures { Declared places.now place start size (held store.old) result (held store.new) }
+    ensures { DoesDeclare places.now place start size (held store.old) result (held store.new) }
 {
     match shown(places, place) {
         Some(token) => Answer::Declared(store.set_range(token, start, size)),
@@ -47,7 +47,7 @@ fn write<D: Device>(
     start: usize,
     bytes: &[u8],
 ) -> Answer
-    ensures { Written places.now place start bytes.now (held store.old) result (held store.new) }
+    ensures { DoesWrite places.now place start bytes.now (held store.old) result (held store.new) }
 {
     match shown(places, place) {
         Some(token) => Answer::Written(store.write(token, start, bytes)),
@@ -62,7 +62,7 @@ fn read<D: Device>(
     first: usize,
     end: usize,
 ) -> Answer
-    ensures { Read start first end (held store.now) buffer.old result buffer.new }
+    ensures { DoesRead start first end (held store.now) buffer.old result buffer.new }
 {
     if first > end || end > buffer.len() {
         return Answer::NotMade;
@@ -76,7 +76,7 @@ fn commit<D: Device>(
     place: usize,
     flush: bool,
 ) -> Answer
-    ensures commits { Committed places.old place flush (held store.old) result (held store.new) }
+    ensures commits { DoesCommit places.old place flush (held store.old) result (held store.new) }
     ensures taken { places.new ≡ slice_set places.old place None }
 {
     match take(places, place) {
@@ -86,7 +86,7 @@ fn commit<D: Device>(
 }
 
 fn abort<D: Device>(store: &mut Store<D>, places: &mut [Option<Token>], place: usize) -> Answer
-    ensures aborts { Aborted places.old place (held store.old) result (held store.new) }
+    ensures aborts { DoesAbort places.old place (held store.old) result (held store.new) }
     ensures taken { places.new ≡ slice_set places.old place None }
 {
     match take(places, place) {
@@ -96,13 +96,13 @@ fn abort<D: Device>(store: &mut Store<D>, places: &mut [Option<Token>], place: u
 }
 
 fn flush<D: Device>(store: &mut Store<D>) -> Answer
-    ensures { Flushed (held store.old) result (held store.new) }
+    ensures { DoesFlush (held store.old) result (held store.new) }
 {
     Answer::Flushed(store.flush())
 }
 
 fn truncate<D: Device>(store: &mut Store<D>) -> Answer
-    ensures { Truncated (held store.old) result (held store.new) }
+    ensures { DoesTruncate (held store.old) result (held store.new) }
 {
     Answer::Truncated(store.truncate())
 }

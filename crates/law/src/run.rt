@@ -1,7 +1,8 @@
 // A run: a script worked over a device.
 ghost use Rattle.law.specs.Events.{working, closed};
 ghost use Rattle.law.specs.Law.{CrashSafe};
-ghost use Rattle.law.specs.Run.{moment_of, stage, Starts, Steps, Worked, Ended, Ran};
+ghost use Rattle.law.specs.Deeds.{Starts};
+ghost use Rattle.law.specs.Run.{moment_of, stage, Steps, Worked, Ended, Ran};
 ghost use Rattle.transactions.specs.Held.{held};
 
 use crate::deeds::deed;
