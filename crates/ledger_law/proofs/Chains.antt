@@ -1,6 +1,5 @@
 -- What a run of a ledger does below is a run of the store.
-use Rattle.std.proofs.Common.{◌≡◌, ℕ, Bool, true, List, [], ◌∷◌, ◌++◌, Ok, Err, None, Option, Result, refl, sym, ap, ◌∙◌, subst, inl, inr}
-use Rattle.device.specs.Trace.{Act}
+use Rattle.std.proofs.Common.{◌≡◌, ℕ, Bool, true, List, [], ◌∷◌, ◌++◌, Ok, Err, Result, refl, sym, ap, subst, inl, inr}
 use Rattle.device.specs.Disk.{Disk}
 use Rattle.transactions.specs.declared.fault.StoreFault.{StoreFault}
 use Rattle.transactions.specs.Held as held
@@ -10,7 +9,7 @@ use Rattle.book.specs.Edits.{Edit, make_edits}
 use Rattle.changes.specs.Changes.{PutIn, Changes}
 use Rattle.ledger.specs.Sound.{Held}
 use Rattle.ledger.specs.Calls.{Change, OnBook, Makes, Opens, OnStore, issuing, moving, visiting, enrolling, dropping, collecting, ByOrdinal, WithFront}
-use Rattle.ledger_law.specs.Below.{event, putting, changing, Does, One}
+use Rattle.ledger_law.specs.Below.{event, putting, Does, One}
 use Rattle.ledger_law.specs.Events.{Moment, working, closed, below, Call, make, opening, close, issue, move, visit, enrol, drop_tag, collect, find, balance, flush, truncate, Event, DidMake, DidOpen, DidChange, DidOnStore, Happens, Chain, all_did}
 use Rattle.ledger_law.specs.Law.{RunsBelow}
 

@@ -1,5 +1,5 @@
 -- A change that is made keeps what stands.
-use Rattle.std.proofs.Common.{◌≡◌, ℕ, ◌+◌, ◌-◌, Bool, true, false, cond, not, ◌&&◌, ◌≢◌, ◌⊎◌, List, [], ◌∷◌, ◌++◌, map, length, Some, None, Ok, Err, Option, Result, sym, refl, ap, ◌∙◌, subst, inl, inr, arith, sum}
+use Rattle.std.proofs.Common.{◌≡◌, ℕ, ◌+◌, ◌-◌, Bool, true, false, cond, not, ◌&&◌, ◌≢◌, ◌⊎◌, List, [], ◌∷◌, ◌++◌, map, length, Some, None, Ok, Err, Result, sym, refl, ap, ◌∙◌, subst, inl, inr, sum}
 use mathlib.Core.Path.{fun_ext}
 use Rattle.std.proofs.lemmas.Bool.{both_ways, and_from, and_left, and_right}
 use Rattle.device.specs.Disk.{Disk, Plate}
@@ -24,15 +24,15 @@ use Rattle.changes.proofs.Patches.{some_none, token_fits}
 use Rattle.ledger.specs.Sound.{Held, is_on}
 use Rattle.ledger.specs.Calls.{Change, Made}
 use Rattle.ledger.proofs.Standing as ledger
-use Rattle.ledger_law.specs.Below.{changing, Does}
-use Rattle.ledger_law.specs.Events.{working, below}
+use Rattle.ledger_law.specs.Below.{Does}
+use Rattle.ledger_law.specs.Events.{working}
 use Rattle.ledger_law.specs.Law.{entered_after, newly}
 use Rattle.ledger_law.proofs.Sectors.{tried_plate}
 use Rattle.ledger_law.proofs.Entering.{FirstKept, Grown, AllPlain, all_grow, changing_plain, changing_enters}
 use Rattle.ledger_law.proofs.Memories.{AllInside, inside_append, own_inside, same_own}
 use Rattle.ledger_law.proofs.Books.{Books, books_more}
 use Rattle.ledger_law.proofs.Sums.{Sums}
-use Rattle.ledger_law.proofs.Keeping.{Rests, RestsAt, Keeps, Whole, whole, Stands, none_issued}
+use Rattle.ledger_law.proofs.Keeping.{Rests, RestsAt, Keeps, Whole, whole, Stands}
 
 -- whether a commit enters
 

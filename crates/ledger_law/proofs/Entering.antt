@@ -1,11 +1,11 @@
 -- What is entered after events of the store that neither format nor open.
-use Rattle.std.proofs.Common.{◌≡◌, ℕ, ◌+◌, Bool, true, cond, List, [], ◌∷◌, ◌++◌, map, Ok, Err, Some, None, Option, Result, refl, sym, ap, ◌∙◌, subst, inl, inr, append_assoc}
+use Rattle.std.proofs.Common.{◌≡◌, ℕ, ◌+◌, Bool, List, [], ◌∷◌, ◌++◌, map, Some, Option, Result, refl, sym, ap, ◌∙◌, inl, inr, append_assoc}
 use Rattle.device.specs.Trace.{Act, looked, wrote, settled, restarted}
 use Rattle.durability.specs.Items.{Item}
 use Rattle.transactions.specs.declared.fault.StoreFault.{StoreFault}
 use Rattle.transactions.specs.Held.{Held}
 use Rattle.law.specs.Transactions.{Transaction, records_of}
-use Rattle.law.specs.Kept.{BarrierComes, Settles, Settled, Entered, Kept}
+use Rattle.law.specs.Kept.{BarrierComes, Settles, Entered, Kept}
 use Rattle.law.specs.Events as store
 use Rattle.law.specs.Law as law
 use Rattle.book.specs.Edits.{Edit}

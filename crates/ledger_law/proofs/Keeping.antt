@@ -1,10 +1,9 @@
 -- What every run of a ledger keeps, and what follows from that.
-use Rattle.std.proofs.Common.{◌≡◌, ℕ, ◌+◌, ◌≤◌, Bool, true, false, cond, List, [], ◌∷◌, ◌++◌, map, length, take, Some, None, Option, sym, refl, ap, ◌∙◌, subst, arith, sum}
+use Rattle.std.proofs.Common.{◌≡◌, ℕ, ◌+◌, ◌≤◌, true, List, [], ◌∷◌, ◌++◌, map, length, Some, None, Option, sym, refl, ap, ◌∙◌, subst, arith, sum}
 use Rattle.std.proofs.lemmas.List.{take_all}
 use Rattle.image.specs.Calls.{declared}
 use Rattle.book.specs.Layout.{byte_in}
 use Rattle.book.specs.Book.{Book, Holds}
-use Rattle.book.specs.Conserved.{Conserved}
 use Rattle.book.proofs.Conserving.{conserving}
 use Rattle.law.specs.Transactions.{Transaction, made_of}
 use Rattle.law.specs.Kept.{Entered}
@@ -12,7 +11,7 @@ use Rattle.law.specs.Events as store
 use Rattle.law.specs.Law as law
 use Rattle.ledger.specs.Sound.{Held, HoldsBook, is_on}
 use Rattle.ledger_law.specs.Events.{Moment, working, closed, below}
-use Rattle.ledger_law.specs.Law.{Standing, ConservedAt}
+use Rattle.ledger_law.specs.Law.{ConservedAt}
 use Rattle.ledger_law.proofs.Entering.{FirstKept}
 use Rattle.ledger_law.proofs.Memories.{AllInside}
 use Rattle.ledger_law.proofs.Books.{Books}

@@ -1,32 +1,28 @@
 -- What stands once a ledger was made.
-use Rattle.std.proofs.Common.{◌≡◌, ℕ, ◌-◌, ◌≤◌, Bool, true, false, cond, List, [], ◌∷◌, ◌++◌, map, length, Some, None, Ok, Err, Option, Result, sym, refl, ap, ◌∙◌, subst, inl, inr, arith}
+use Rattle.std.proofs.Common.{◌≡◌, ℕ, ◌-◌, Bool, true, false, cond, List, [], ◌∷◌, ◌++◌, map, length, Some, None, Ok, sym, refl, ap, ◌∙◌, subst, inl, inr, arith}
 use Rattle.device.specs.Disk.{Disk, Plate}
-use Rattle.image.specs.Calls.{declared}
-use Rattle.transactions.specs.declared.fault.StoreFault.{StoreFault}
 use Rattle.transactions.specs.Held as held
 use Rattle.transactions.specs.Calls.{CommitsParts}
 use Rattle.transactions.specs.Rows.{first_fit, token_rows}
 use Rattle.law.specs.Transactions.{Transaction, made_of}
-use Rattle.law.specs.Kept.{Entered, Kept, AllKept}
+use Rattle.law.specs.Kept.{Entered, AllKept}
 use Rattle.law.specs.Events as store
 use Rattle.law.specs.Law as law
-use Rattle.book.specs.declared.fault.LedgerFault.{LedgerFault}
 use Rattle.book.specs.Layout.{byte_in}
 use Rattle.book.specs.Book.{Holds, new_book}
 use Rattle.book.specs.Edits.{make_edits}
 use Rattle.changes.specs.Changes.{Changes}
-use Rattle.ledger.specs.Sound.{Held, HoldsBook, is_on}
+use Rattle.ledger.specs.Sound.{Held, HoldsBook}
 use Rattle.ledger.specs.Calls.{Linked}
-use Rattle.ledger.proofs.Standing as ledger
 use Rattle.ledger.proofs.Fresh.{blank_memory}
-use Rattle.ledger_law.specs.Below.{event, silent, putting, changing, Does, One}
+use Rattle.ledger_law.specs.Below.{event, silent, putting, Does}
 use Rattle.ledger_law.specs.Events.{working}
 use Rattle.ledger_law.specs.Law.{entered_after, newly}
 use Rattle.ledger_law.proofs.Sectors.{tried_plate}
 use Rattle.ledger_law.proofs.Entering.{FirstKept, Grown, AllPlain, all_grow, changing_plain, changing_enters}
 use Rattle.ledger_law.proofs.Memories.{AllInside, own_inside, same_own}
 use Rattle.ledger_law.proofs.Books.{Books, no_books, books_more}
-use Rattle.ledger_law.proofs.Keeping.{RestsAt, Keeps, Stands}
+use Rattle.ledger_law.proofs.Keeping.{Stands}
 use Rattle.ledger_law.proofs.Changing.{passing}
 
 -- Events of the store in two parts.

@@ -4,7 +4,6 @@ use mathlib.Core.Path.{fun_ext}
 use Rattle.std.proofs.lemmas.Bool.{cond-true, cond-false, le-leb, le-ltb, lt-ltb, both_ways, cases_lt, cases_Bool}
 use Rattle.std.proofs.lemmas.List.{get_or_past}
 use Rattle.image.specs.declared.run.Run.{Run}
-use Rattle.image.specs.declared.state.Image.{Image}
 use Rattle.image.specs.Runs.{Declared, is_declared, Inside}
 use Rattle.image.specs.Calls.{declared}
 use Rattle.image.proofs.Facts.{inside_out}

@@ -1,5 +1,5 @@
 -- What stands once a ledger was opened.
-use Rattle.std.proofs.Common.{◌≡◌, ℕ, zero, suc, ◌-◌, ◌≤◌, Bool, true, false, List, [], ◌∷◌, ◌++◌, map, length, take, drop, Some, None, Ok, Err, Option, Result, sym, refl, ap, ◌∙◌, subst, inl, inr, arith}
+use Rattle.std.proofs.Common.{◌≡◌, ℕ, zero, suc, ◌-◌, ◌≤◌, false, List, [], ◌∷◌, ◌++◌, map, length, take, drop, Some, Ok, Err, Option, Result, sym, refl, ap, ◌∙◌, subst, inl, inr, arith}
 use Rattle.std.proofs.lemmas.Bool.{both_ways}
 use Rattle.std.proofs.lemmas.List.{length-map}
 use Rattle.device.specs.Disk.{Disk, Plate}
@@ -12,14 +12,13 @@ use Rattle.law.specs.Kept.{Entered, NoneKept}
 use Rattle.law.specs.Events as store
 use Rattle.law.specs.Law as law
 use Rattle.book.specs.declared.fault.LedgerFault.{LedgerFault}
-use Rattle.book.specs.declared.fault.LedgerFault.TheVariants.{Store}
 use Rattle.book.specs.Fault.{number}
 use Rattle.book.specs.Layout.{byte_in}
 use Rattle.book.specs.Book.{Book, Holds}
 use Rattle.ledger.specs.Sound.{Held, HoldsBook, is_on}
 use Rattle.ledger.specs.Calls.{Opens}
-use Rattle.ledger_law.specs.Below.{event, One}
-use Rattle.ledger_law.specs.Events.{Moment, working, closed, opening, DidOpen}
+use Rattle.ledger_law.specs.Below.{event}
+use Rattle.ledger_law.specs.Events.{working, closed, opening, DidOpen}
 use Rattle.ledger_law.specs.Law.{entered_after, newly, stood, with_new, OpensLawfully}
 use Rattle.ledger_law.proofs.Sectors.{opened_plate}
 use Rattle.ledger_law.proofs.Entering.{FirstKept, Grown, grown_later}

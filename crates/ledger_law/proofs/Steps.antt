@@ -1,13 +1,12 @@
 -- One event keeps the law, and so do all of a run.
-use Rattle.std.proofs.Common.{append_assoc, ◌≡◌, ℕ, ◌-◌, Bool, true, false, List, [], ◌∷◌, ◌++◌, map, Some, None, Ok, Err, Option, Result, sym, refl, ap, ◌∙◌, subst, inl, inr, arith}
-use Rattle.std.proofs.lemmas.Bool.{both_ways}
+use Rattle.std.proofs.Common.{append_assoc, ◌≡◌, ℕ, ◌-◌, Bool, true, List, [], ◌∷◌, ◌++◌, map, Some, None, Ok, Err, Option, Result, sym, refl, ap, ◌∙◌, subst, inl, inr}
 use Rattle.device.specs.Disk.{Disk, Plate}
 use Rattle.device.specs.Trace.{Act}
 use Rattle.image.specs.declared.state.Image.{Image}
 use Rattle.image.specs.Calls.{declared}
 use Rattle.transactions.specs.declared.fault.StoreFault.{StoreFault}
 use Rattle.transactions.specs.Held as held
-use Rattle.law.specs.Transactions.{Transaction, made_of}
+use Rattle.law.specs.Transactions.{Transaction}
 use Rattle.law.specs.Kept.{Entered}
 use Rattle.law.specs.Events as store
 use Rattle.law.specs.Law as law
@@ -15,17 +14,16 @@ use Rattle.book.specs.declared.fault.LedgerFault.{LedgerFault}
 use Rattle.book.specs.Layout.{byte_in}
 use Rattle.ledger.specs.Sound.{Held, is_on}
 use Rattle.ledger.specs.Calls.{Change, OnBook, OnStore, Makes, issuing, moving, visiting, enrolling, dropping, collecting, ByOrdinal, WithFront}
-use Rattle.ledger.proofs.Standing as ledger
 use Rattle.ledger_law.specs.Below.{event, One}
 use Rattle.ledger_law.specs.Events.{Moment, working, closed, below, Call, make, opening, close, issue, move, visit, enrol, drop_tag, collect, find, balance, flush, truncate, Event, DidMake, DidChange, DidOnStore, Happens, Chain, all_did}
-use Rattle.ledger_law.specs.Law.{Standing, nothing, entered_after, newly, amount_of, stood, with_new, after, ConservedAt, OpensLawfully, Lawful, AllLawful, Conserving}
+use Rattle.ledger_law.specs.Law.{Standing, nothing, entered_after, newly, amount_of, stood, with_new, after, ConservedAt, OpensLawfully, AllLawful, Conserving}
 use Rattle.ledger_law.proofs.Chains.{runs_below}
 use Rattle.ledger_law.proofs.Sectors.{tried_plate, looking_plate}
-use Rattle.ledger_law.proofs.Entering.{FirstKept, Plain, Grown, plain_grows}
+use Rattle.ledger_law.proofs.Entering.{Plain, Grown, plain_grows}
 use Rattle.ledger_law.proofs.Sums.{Sums, issuing_sums, moving_sums, visiting_sums, enrolling_sums, dropping_sums, collecting_sums}
-use Rattle.ledger_law.proofs.Keeping.{Rests, RestsAt, Keeps, Stands, conserved, keeps_so}
+use Rattle.ledger_law.proofs.Keeping.{RestsAt, Keeps, Stands, conserved, keeps_so}
 use Rattle.ledger_law.proofs.Changing.{made_stands}
-use Rattle.ledger_law.proofs.Making.{lawful_split, entered_append, make_keeps}
+use Rattle.ledger_law.proofs.Making.{lawful_split, make_keeps}
 use Rattle.ledger_law.proofs.Opening.{opening_keeps}
 
 append_none : {X : Type 0} (xs : List X) → xs ++ [] ≡ xs

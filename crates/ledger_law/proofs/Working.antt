@@ -1,5 +1,5 @@
 -- A run that has come so far.
-use Rattle.std.proofs.Common.{◌≡◌, ℕ, zero, suc, ◌+◌, ◌<◌, min, List, [], ◌∷◌, ◌++◌, length, get_or, take, drop, set, append_assoc, sym, refl, ap, ◌∙◌, subst, add-one, inl, inr}
+use Rattle.std.proofs.Common.{◌≡◌, ℕ, zero, suc, ◌+◌, ◌<◌, min, List, [], ◌∷◌, ◌++◌, length, get_or, take, drop, set, append_assoc, sym, refl, ap, ◌∙◌, subst, add-one}
 use lib.Seq.{drop-nil}
 use Rattle.std.proofs.lemmas.List.{take_more, take_more_set}
 use Rattle.device.specs.Disk.{Disk}

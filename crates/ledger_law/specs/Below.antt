@@ -1,12 +1,11 @@
 -- What a call of a ledger did on the store below, as events of a run of the store.
-use Rattle.std.specs.Prelude.{◌≡◌, ℕ, Bool, List, [], ◌∷◌, ◌++◌, length, Ok, Err, None, Option, Result}
+use Rattle.std.specs.Prelude.{◌≡◌, ℕ, Bool, List, [], ◌∷◌, ◌++◌, length, Ok, None, Option, Result}
 use Rattle.device.specs.Trace.{Act}
 use Rattle.transactions.specs.declared.fault.StoreFault.{StoreFault}
 use Rattle.transactions.specs.Held.{Held}
 use Rattle.law.specs.Events as store
 use Rattle.book.specs.Edits.{Edit}
 use Rattle.changes.specs.Changes.{PutIn, Changes}
-use Rattle.ledger.specs.Calls.{Change, Asleep, Refused, Made, OnBook}
 
 -- One call of the store.
 abbrev pub event : store.Call → store.Moment → List Act → Option Act → store.Moment → store.Event

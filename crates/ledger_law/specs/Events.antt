@@ -10,7 +10,7 @@ use Rattle.book.specs.declared.records.Entry.{Entry}
 use Rattle.book.specs.Edits.{make_edits}
 use Rattle.ledger.specs.Sound.{Held}
 use Rattle.ledger.specs.Calls.{Change, OnBook, ByOrdinal, WithFront, issuing, moving, visiting, enrolling, dropping, collecting, Makes, Opens, Issues, Moves, Visits, Enrols, Drops, Collects, Finds, Balances, OnStore, Flushes, Truncates}
-use Rattle.ledger_law.specs.Below.{event, changing, Does, One}
+use Rattle.ledger_law.specs.Below.{Does, One}
 
 -- A run between two calls: a ledger works on its device, or the device lies alone.
 pub data Moment : Type 0 where

@@ -1,13 +1,12 @@
 -- The conservation law of ledgers: what stands, computed from the events of a run, and what holds of each event.
-use Rattle.std.specs.Prelude.{◌≡◌, ℕ, true, List, [], ◌∷◌, ◌++◌, map, take, Some, None, Ok, Err, Option, Result}
+use Rattle.std.specs.Prelude.{◌≡◌, ℕ, true, List, [], ◌∷◌, ◌++◌, map, take, Some, None, Ok, Err, Option}
 use Rattle.law.specs.Kept.{Entered}
 use Rattle.law.specs.Events as store
 use Rattle.law.specs.Law as law
-use Rattle.book.specs.declared.fault.LedgerFault.{LedgerFault}
 use Rattle.book.specs.Fault.{number}
 use Rattle.book.specs.Conserved.{Conserved}
-use Rattle.ledger.specs.Sound.{Held, is_on}
-use Rattle.ledger_law.specs.Events.{Moment, working, closed, below, Call, make, opening, issue, Event, Chain, all_did}
+use Rattle.ledger.specs.Sound.{is_on}
+use Rattle.ledger_law.specs.Events.{Moment, working, below, Call, make, opening, issue, Event, Chain, all_did}
 
 -- What stands: what is entered on the store below, by its law, and for each of those transactions the amount that its
 -- issue call was given, or 0 where it was another call's. Nothing is known of a ledger until a make of it succeeds.

@@ -1,6 +1,6 @@
 // The calls of a script on a ledger that works, one at a time.
 ghost use Rattle.ledger.specs.Held.{held};
-ghost use Rattle.ledger_law.specs.Run.{StepsOn};
+ghost use Rattle.ledger_law.specs.Run.{Does};
 ghost use Rattle.std.specs.Prelude.{◌≢◌};
 
 use crate::script::{Answer, Call};
@@ -10,7 +10,7 @@ use ledger::Ledger;
 // Makes one call on a ledger that works, other than close: that one gives the ledger up.
 pub(crate) fn deed<D: Device>(ledger: &mut Ledger<D>, call: Call) -> Answer
     requires { call ≢ Call.Close }
-    ensures { StepsOn call (held ledger.old) result (held ledger.new) }
+    ensures { Does call (held ledger.old) result (held ledger.new) }
 {
     match call {
         Call::Make | Call::Open | Call::Close => Answer::NotMade,

@@ -1,7 +1,7 @@
 // A run: a script of a ledger's calls worked over a device.
 ghost use Rattle.ledger.specs.Held.{held};
 ghost use Rattle.ledger_law.specs.Events.{working, closed};
-ghost use Rattle.ledger_law.specs.Run.{moment_of, Steps, Worked, Ended, Ran};
+ghost use Rattle.ledger_law.specs.Run.{moment_of, Starts, Steps, Worked, Ended, Ran};
 
 use crate::deeds::deed;
 use crate::script::{Answer, Call};
@@ -16,7 +16,7 @@ pub enum Run<D: Device> {
 
 // Makes one call of a script on a device that lies alone.
 fn begin_on<D: Device>(device: D, call: Call) -> (Run<D>, Answer)
-    ensures { Steps call (closed (D.Device.disk device)) result.1 (moment_of result.0) }
+    ensures { Starts call (D.Device.disk device) result.1 (moment_of result.0) }
 {
     match call {
         Call::Make => {

@@ -1,8 +1,6 @@
 -- A ledger that works is closed.
 use Rattle.std.proofs.Common.{sym, ap, subst}
 use Rattle.ledger.specs.Held.{held}
-use Rattle.ledger_law.specs.declared.run.Run.TheVariants.{Working}
-use Rattle.ledger_law.specs.Events.{Moment}
 use Rattle.ledger_law.specs.Run.{moment_of, Ended}
 use Rattle.ledger_law.proofs.Playing.{close_ends}
 use Rattle.ledger_law.proofs.run.end.Goals as goal

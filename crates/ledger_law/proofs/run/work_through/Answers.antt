@@ -3,7 +3,7 @@ use Rattle.std.proofs.Common.{◌≡◌, ◌<◌, min, length, arith, ◌∙◌,
 use Rattle.std.proofs.lemmas.List.{get_or_default, get_or-take, length-take}
 use Rattle.ledger_law.specs.Events.{closed}
 use Rattle.ledger_law.specs.Run.{moment_of}
-use Rattle.ledger_law.proofs.Working.{SoFar, so_far_begins, so_far_goes, so_far_ends}
+use Rattle.ledger_law.proofs.Working.{SoFar, so_far_goes, so_far_ends}
 use Rattle.ledger_law.proofs.run.work_through.Goals as goal
 
 pub loop-i-preserved : goal.loop-i-preserved

@@ -1,5 +1,4 @@
 -- The calls so far.
-use Rattle.ledger_law.specs.Events.{closed}
 use Rattle.ledger_law.specs.Run.{moment_of}
 use Rattle.ledger_law.proofs.Working.{SoFar}
 use Rattle.ledger_law.proofs.run.work_through.Given as goal
