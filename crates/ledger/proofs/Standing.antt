@@ -20,6 +20,7 @@ use Rattle.book.specs.Edits.{Edit, after_edits}
 use Rattle.transactions.specs.Calls.{Flushes, Commits}
 use Rattle.transactions.specs.Held.{Held}
 use Rattle.changes.specs.Changes.{Prepared, PutIn, Changes}
+use Rattle.changes.specs.Steps.{Performs}
 use Rattle.changes.proofs.Patches.{some_none, token_fits}
 use Rattle.ledger.specs.Sound.{HoldsBook, on, Sound}
 
@@ -49,6 +50,11 @@ committed h k xs flush r x =
       subst (λ (n : ℕ). Commits x.prepared.state h.disk n flush r k.state k.disk) x.begins.0.1
           (subst (λ (d : Disk). Commits x.prepared.state d x.token.number flush r k.state k.disk) here x.commits),
     )
+
+-- on a store with nothing declared a change that passes is made
+pub made_on_clean : (h k : Held) (xs : List Edit) (flush : Bool) (x : ℕ × ℕ) → declared h.state.image ≡ [] → Performs xs flush h (Ok x) k → Changes h xs flush (Ok x) k
+made_on_clean h k xs flush x clean (inl (f, fits, is, same)) = cc
+made_on_clean h k xs flush x clean (inr (passes, made)) = made clean
 
 -- The memory has the edits, no transaction is open, and nothing is declared.
 pub record Changed (s : State) (xs : List Edit) (s' : State) : Type 0 where
