@@ -13,9 +13,13 @@ use Rattle.law.specs.declared.script.Call as scripts
 use Rattle.law.specs.declared.script.Answer.{Answer}
 use Rattle.law.specs.declared.script.Answer.TheVariants as told
 use Rattle.law.specs.Events.{Moment, working, closed, Call, format, opening, close, begin, set_range, write, read, commit, abort, flush, truncate, Event, Happens}
-use Rattle.law.specs.Run.{Places, token_at, Stage, stage, NotMade, Made, begun, told_begun, is_free, fits, MadeAs, Steps, StepsOn}
+use Rattle.law.specs.Run.{Places, token_at, Stage, stage, NotMade, Made, begun, told_begun, is_free, fits, MadeAs, Steps}
 use Rattle.law.specs.Deeds.{Does, Starts}
 use Rattle.law.proofs.Tracing.{commit_tried, flush_tried, truncate_tried, format_tried, opening_tried}
+
+-- A store works before it and after it.
+abbrev pub StepsOn : scripts.Call → Held → Places → List ℕ → Answer → Held → Places → List ℕ → Type 0
+StepsOn call h places buffer a k places' buffer' = Steps call (stage (working h) places buffer) a (stage (working k) places' buffer')
 
 -- made, or not
 

@@ -5,7 +5,7 @@ use Rattle.device.specs.declared.Device.{Ghosts}
 use Rattle.device.specs.Trace.{Act}
 use Rattle.transactions.specs.declared.fault.StoreFault.{StoreFault}
 use Rattle.transactions.specs.declared.token.Token.{Token}
-use Rattle.transactions.specs.Held.{Held, held}
+use Rattle.transactions.specs.Held.{held}
 use Rattle.law.specs.declared.run.Run.{Run}
 use Rattle.law.specs.declared.run.Run.TheVariants.{Working, Closed}
 use Rattle.law.specs.declared.script.Call.TheVariants as script
@@ -113,10 +113,6 @@ Plays call w a es w' = MatchBool (fits call w) (MadeAs call w a es w') (NotMade 
 -- It is made, or not.
 abbrev pub Steps : scripts.Call → Stage → Answer → Stage → Type 0
 Steps call w a w' = (es : List Event) × Plays call w a es w'
-
--- A store works before it and after it.
-abbrev pub StepsOn : scripts.Call → Held → Places → List ℕ → Answer → Held → Places → List ℕ → Type 0
-StepsOn call h places buffer a k places' buffer' = Steps call (stage (working h) places buffer) a (stage (working k) places' buffer')
 
 -- The calls of a script with their answers, one after another, and their events.
 abbrev pub Played : List scripts.Call → List Answer → Stage → List Event → Stage → Type 0
