@@ -13,7 +13,8 @@ use Rattle.ledger_law.specs.declared.script.Answer.TheVariants as told
 use Rattle.ledger_law.specs.Below.{event}
 use Rattle.ledger_law.specs.Events as events
 use Rattle.ledger_law.specs.Events.{Moment, working, closed, Event, Happens, Chain}
-use Rattle.ledger_law.specs.Run.{Made, NotMade, fits, MadeAs, Plays, Steps, Does, Starts, Ended}
+use Rattle.ledger_law.specs.Run.{Made, NotMade, fits, MadeAs, Plays, Steps, Ended}
+use Rattle.ledger_law.specs.Deeds.{Does, Starts}
 use Rattle.ledger_law.proofs.Tracing.{did_make, did_open, did_change, did_flush, did_truncate}
 
 -- what happened is made

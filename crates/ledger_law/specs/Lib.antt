@@ -3,4 +3,5 @@ pub mod Below
 pub mod Events
 pub mod Law
 pub mod Run
+pub mod Deeds
 pub mod Whole

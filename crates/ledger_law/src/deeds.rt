@@ -1,6 +1,6 @@
 // The calls of a script on a ledger that works, one at a time.
 ghost use Rattle.ledger.specs.Held.{held};
-ghost use Rattle.ledger_law.specs.Run.{Does};
+ghost use Rattle.ledger_law.specs.Deeds.{Does};
 ghost use Rattle.std.specs.Prelude.{◌≢◌};
 
 use crate::script::{Answer, Call};

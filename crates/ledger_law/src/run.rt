@@ -1,7 +1,8 @@
 // A run: a script of a ledger's calls worked over a device.
 ghost use Rattle.ledger.specs.Held.{held};
+ghost use Rattle.ledger_law.specs.Deeds.{Starts};
 ghost use Rattle.ledger_law.specs.Events.{working, closed};
-ghost use Rattle.ledger_law.specs.Run.{moment_of, Starts, Steps, Worked, Ended, Ran};
+ghost use Rattle.ledger_law.specs.Run.{moment_of, Steps, Worked, Ended, Ran};
 
 use crate::deeds::deed;
 use crate::script::{Answer, Call};
