@@ -1,5 +1,5 @@
 -- Ranges at the end of the memory, and one over the bound of two pages.
-use Rattle.std.proofs.Common.{◌≡◌, ℕ, ◌+◌, ◌<◌, ◌≤◌, min, max, List, [], ◌∷◌, length, Some, None, Ok, Err, Option, Result, refl, ap, ◌∙◌, inl, inr, ⊎_elim, arith}
+use Rattle.std.proofs.Common.{◌≡◌, ℕ, ◌+◌, ◌<◌, ◌≤◌, min, max, List, [], ◌∷◌, length, Some, None, Ok, Err, Option, Result, refl, ap, ◌∙◌, inl, inr, ⊎_elim, lit≤, arith}
 use Rattle.std.proofs.lemmas.Bool.{cases_lt, lt-ltb, le-ltb}
 use Rattle.image.specs.declared.run.Run.{Run}
 use Rattle.image.specs.declared.run.ImageFault.{ImageFault}
@@ -9,6 +9,7 @@ use Rattle.image.specs.Calls.{declared, Declares}
 use Rattle.image.specs.Cut.{cut, cut_runs}
 use Rattle.image.specs.Runs.{run, joined}
 use Rattle.image.specs.Stretch.{OutOfRange}
+use Rattle.image.proofs.Alone.{runs_are_joined}
 use Rattle.transactions.specs.declared.fault.StoreFault.{StoreFault}
 use Rattle.transactions.specs.declared.fault.StoreFault.TheVariants.{Range}
 use Rattle.transactions.specs.declared.state.State.{State}
@@ -41,7 +42,9 @@ not_both (Some g) f h k = let z : ◌≡◌ {A = ℕ} 0 1 = cc in omega (arith, 
 -- what the memory may refuse a stretch for that lies in it
 last_byte : (x y : Image) (g : ImageFault) → length (declared x) < 16 → Declares 6143 1 x (Err g) y → ⊥
 last_byte x y (image.Range s) few h = ⊎_elim (λ none. omega (arith, none)) (λ past. omega (arith, past)) h.out
-last_byte x y (image.Runs s) few h = omega (arith, few, h.many, joined_more 6143 6144 (declared x))
+last_byte x y (image.Runs s) few h =
+    let is = ap (λ (rs : List Run). length rs) (runs_are_joined 6143 6144 x.runs h.runs (lit≤ tt) h.declares) in
+    omega (arith, few, h.many, is, joined_more 6143 6144 (declared x))
 last_byte x y (image.Undeclared b) few h = h
 
 pub last_byte_declared : LastByteDeclared
@@ -76,7 +79,7 @@ two_parts ordinal memory = refl
 
 pub cut_in_two : CutInTwo
 cut_in_two s s' token u none (row, does, made) =
-    let runs : declared s'.image ≡ run 90 102 ∷ [] = does.runs ∙ ap (joined 90 102) none in
+    let runs : declared s'.image ≡ run 90 102 ∷ [] = runs_are_joined 90 102 s.image.runs (declared s'.image) (lit≤ tt) does.declares ∙ ap (joined 90 102) none in
     ap (λ (x : ℕ). parts (x + 1) s'.image.memory (cut_runs (declared s'.image))) (ap (λ (l : Log). l.ordinal) made.log_is)
     ∙ ap (λ (m : List ℕ). parts (s.log.ordinal + 1) m (cut_runs (declared s'.image))) does.memory
     ∙ ap (λ (rs : List Run). parts (s.log.ordinal + 1) s.image.memory (cut_runs rs)) runs

@@ -86,8 +86,7 @@ flush_places : (h k : held.Held) (x : Result ℕ StoreFault) (done : List Act) (
 flush_places h k x done cut (does, tried) = ap (λ (q : Plate). q.sectors - 64) (tried_plate (store.flush_plan h.state) h.disk done cut x k.disk tried)
 
 truncate_places : (h k : held.Held) (x : Result ℕ StoreFault) (done : List Act) (cut : Option Act) → store.Happens (store.truncate x) (store.working h) done cut (store.working k) → law.places_at (store.working k) ≡ law.places_at (store.working h)
-truncate_places h k x done cut (does, inl tried) = ap (λ (q : Plate). q.sectors - 64) (tried_plate (store.truncate_plan h.state h.disk.shows) h.disk done cut x k.disk tried)
-truncate_places h k x done cut (does, inr (none, is, (o, reading))) = ap (λ (q : Plate). q.sectors - 64) (looking_plate h.disk k.disk o reading.cut)
+truncate_places h k x done cut (does, tried) = ap (λ (q : Plate). q.sectors - 64) (tried_plate (store.truncate_plan h.state h.disk.shows) h.disk done cut x k.disk tried)
 
 flushes : (h k : Held) (r : Result ℕ LedgerFault) (m : OnStore held.Flushes h r k) (did : List store.Event) → DidOnStore held.Flushes store.flush h r k m did → (xs : List Entered) (issued : List ℕ) → Keeps (working h) xs issued → Then (working k) 0 did xs issued
 flushes h k r (inl asleep) did none xs issued w = still (working h) (working k) 0 did xs issued (ap working asleep.same) none w
