@@ -18,7 +18,7 @@ use Rattle.ledger_law.specs.Below.{event, One}
 use Rattle.ledger_law.specs.Events.{Moment, working, closed, below, Call, make, opening, close, issue, move, visit, enrol, drop_tag, collect, find, balance, flush, truncate, Event, DidMake, DidChange, DidOnStore, Happens, Chain, all_did}
 use Rattle.ledger_law.specs.Law.{Standing, nothing, entered_after, newly, amount_of, stood, with_new, after, ConservedAt, OpensLawfully, AllLawful, Conserving}
 use Rattle.ledger_law.proofs.Chains.{runs_below}
-use Rattle.ledger_law.proofs.Sectors.{tried_plate, looking_plate}
+use Rattle.ledger_law.proofs.Sectors.{tried_plate}
 use Rattle.ledger_law.proofs.Entering.{Plain, Grown, plain_grows}
 use Rattle.ledger_law.proofs.Sums.{Sums, issuing_sums, moving_sums, visiting_sums, enrolling_sums, dropping_sums, collecting_sums}
 use Rattle.ledger_law.proofs.Keeping.{RestsAt, Keeps, Stands, conserved, keeps_so}
