@@ -41,11 +41,11 @@ opening_refused d e g memory w (inr (n, divides, rest)) = absurd (undivided d.pl
 
 formats_refused : (d e : Disk) (r : Result (Unit {0}) StoreFault) (s : State) → Wrong d.plate.sectors → Formatted d r e s → (r ≡ Err (Size d.plate.sectors)) × (e ≡ d)
 formats_refused d e (Ok u) s w (n, made, fresh) = absurd (undivided d.plate.sectors n w made.0)
-formats_refused d e (Err f) s w (g, is, made, off) = let h = format_refused d e g w made in (ap Err (is ∙ h.0), h.1)
+formats_refused d e (Err f) s w (g, is, made, blank) = let h = format_refused d e g w made in (ap Err (is ∙ h.0), h.1)
 
 opens_refused : (d e : Disk) (r : Result (ℕ × ℕ) StoreFault) (s : State) → Wrong d.plate.sectors → Opened d r e s → (r ≡ Err (Size d.plate.sectors)) × (e ≡ d)
 opens_refused d e (Ok x) s w o = absurd (undivided d.plate.sectors o.places w o.divides)
-opens_refused d e (Err f) s w (g, memory, is, made, off) = let h = opening_refused d e g memory w made in (ap Err (is ∙ h.0), h.1)
+opens_refused d e (Err f) s w (g, memory, is, made, blank) = let h = opening_refused d e g memory w made in (ap Err (is ∙ h.0), h.1)
 
 pub refuses_size : (count : ℕ) → Wrong count → RefusesSize count
 refuses_size count w =

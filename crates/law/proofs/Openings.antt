@@ -243,6 +243,6 @@ opening_failed n d e h memory g w (inr (places, divides, inr (m, restart, r))) =
     recovery_failed n m e h memory g (safe_restarted n d m h w restart) restart.quiet (subst (λ (p : ℕ). Recovers p m (Err g) e memory) same r)
 
 pub open_failed : (n : ℕ) (d e : Disk) (s : State) (h : History) (f : StoreFault) → Safe n d h → Opened d (Err f) e s → (number f ≡ 1) × (s.on ≡ false) × Safe n e h
-open_failed n d e s h f w (g, memory, same, opening, off) =
+open_failed n d e s h f w (g, memory, same, opening, blank) =
     let spared = opening_failed n d e h memory g w opening in
-    (ap number same ∙ spared.0, off, spared.1)
+    (ap number same ∙ spared.0, blank.off, spared.1)

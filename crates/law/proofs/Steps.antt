@@ -173,7 +173,7 @@ module _ (n : ℕ) (s s' : State) (d e : Disk) (h : History) (w : Sound n s d h)
       let barrier = cut_settles s.log.places s.log.low s.log.last xs d e made c.cut.origin c.cut.cut traced in
       let is : After true s made h ≡ entering s h h.kept = none_settled made (entering s h 0).entered h.kept barrier in
       subst (λ (g : History). Sound n s' e g) (sym is)
-      (off_stands n s' e (entering s h h.kept) c.cut.off (commit_cut runs_lay runs_fit runs_none n d s h (rests n s d h w on) true f s' e c))
+      (off_stands n s' e (entering s h h.kept) c.cut.state.off (commit_cut runs_lay runs_fit runs_none n d s h (rests n s d h w on) true f s' e c))
 
   -- A commit with nothing declared moves only whether the store is busy.
   ends_nothing : (x : ℕ × ℕ) → s.on ≡ true → CommitsNothing s d x s' e → Sound n s' e h
@@ -262,5 +262,5 @@ module _ (n : ℕ) (s s' : State) (d e : Disk) (h : History) (w : Sound n s d h)
       let is : with_barrier made h.entered h.kept ≡ h = none_settled made h.entered h.kept barrier in (
         λ j same. absurd (let z : ◌≡◌ {A = ℕ} 0 1 = cc in omega arith),
         subst (λ (g : History). Sound n s' e g) (sym is)
-            (off_stands n s' e h c.off (flush_cut runs_lay runs_fit runs_none n d s h (rests n s d h w on) c.origin e c.cut)),
+            (off_stands n s' e h c.state.off (flush_cut runs_lay runs_fit runs_none n d s h (rests n s d h w on) c.origin e c.cut)),
       )

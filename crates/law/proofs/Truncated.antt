@@ -309,5 +309,5 @@ module _ (n : ℕ) (s s' : State) (d e : Disk) (h : History) (w : Sound n s d h)
       )
   truncate_answers (Err f) traced (inr c) = (
     λ j same. absurd (let z : ◌≡◌ {A = ℕ} 0 1 = cc in omega arith),
-    off_stands n s' e After c.off (cut_stands traced),
+    off_stands n s' e After c.state.off (cut_stands traced),
   )

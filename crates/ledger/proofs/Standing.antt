@@ -96,7 +96,7 @@ undone_leaves s s' d e xs flush f clean (p, made, inr (fits, inl refused)) awake
       free = refused.state.1.busy_is;
       clean = refused.state.0.clean;
     }
-undone_leaves s s' d e xs flush f clean (p, made, inr (fits, inr cut)) awake = absurd (both_ways s'.on cut.cut.off awake)
+undone_leaves s s' d e xs flush f clean (p, made, inr (fits, inr cut)) awake = absurd (both_ways s'.on cut.cut.state.off awake)
 
 -- a memory with the same bytes holds the same book
 pub holds_after : (s s' : State) (xs : List Edit) (b : Book) → Changed s xs s' → Holds (after_edits xs (byte_in s.image.memory)) b → HoldsBook s' b
@@ -141,10 +141,10 @@ pub flush_stands : (fit : Bool) (s s' : State) (d e : Disk) (r : Result ℕ Stor
 flush_stands fit s s' d e (Ok k) awake (passes, count, inl (none, state, device)) sound = same_stands fit s s' state sound
 flush_stands fit s s' d e (Ok k) awake (passes, count, inr (some, done, written, image, free)) sound = kept_stands fit s s' awake image free sound
 flush_stands fit s s' d e (Err f) awake (inl (fits, state, device)) sound = same_stands fit s s' state sound
-flush_stands fit s s' d e (Err f) awake (inr (passes, some, cut)) sound = off_stands fit s' (store_off fit s' cut.off)
+flush_stands fit s s' d e (Err f) awake (inr (passes, some, cut)) sound = off_stands fit s' (store_off fit s' cut.state.off)
 
 pub truncate_stands : (fit : Bool) (s s' : State) (d e : Disk) (r : Result ℕ StoreFault) → on fit s ≡ true → Truncates s d r s' e → Sound fit s → Sound fit s'
 truncate_stands fit s s' d e (Ok k) awake (passes, inl none) sound = same_stands fit s s' none.state sound
 truncate_stands fit s s' d e (Ok k) awake (passes, inr pages) sound = kept_stands fit s s' awake pages.state.image pages.state.busy sound
 truncate_stands fit s s' d e (Err f) awake (inl (fits, state, device)) sound = same_stands fit s s' state sound
-truncate_stands fit s s' d e (Err f) awake (inr cut) sound = off_stands fit s' (store_off fit s' cut.off)
+truncate_stands fit s s' d e (Err f) awake (inr cut) sound = off_stands fit s' (store_off fit s' cut.state.off)

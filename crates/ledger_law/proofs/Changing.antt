@@ -94,7 +94,7 @@ leaving h k xs flushed (Err f) c clean (inr (fits, inl refused)) =
       λ on. record { memory = refused.state.0.memory ∙ c.prepares.before ∙ ledger.unchanged h.state.image clean; clean = refused.state.0.clean },
     )
 leaving h k xs flushed (Err f) c clean (inr (fits, inr cut)) =
-    inl (passing c.prepared.state c.token.number flushed fits cut.some cut.passes, λ on. absurd (both_ways k.store.state.on cut.cut.off (ledger.is_on k.fit k.store.state on)))
+    inl (passing c.prepared.state c.token.number flushed fits cut.some cut.passes, λ on. absurd (both_ways k.store.state.on cut.cut.state.off (ledger.is_on k.fit k.store.state on)))
 
 append_none : {X : Type 0} (xs : List X) → xs ++ [] ≡ xs
 append_none [] = refl

@@ -74,13 +74,13 @@ flush_image : (h k : Held) (x : Result ℕ StoreFault) → held.Flushes h.store 
 flush_image h k (Ok n) (fits, count, inl (zero, same, device)) on = ap (λ s. s.image) same
 flush_image h k (Ok n) (fits, count, inr (some, done, written, image, busy)) on = image
 flush_image h k (Err f) (inl (fits, same, device)) on = ap (λ s. s.image) same
-flush_image h k (Err f) (inr (fits, some, cut)) on = cut.image
+flush_image h k (Err f) (inr (fits, some, cut)) on = cut.state.image
 
 truncate_image : (h k : Held) (x : Result ℕ StoreFault) → held.Truncates h.store x k.store → is_on k ≡ true → k.store.state.image ≡ h.store.state.image
 truncate_image h k (Ok n) (fits, inl none) on = ap (λ s. s.image) none.state
 truncate_image h k (Ok n) (fits, inr pages) on = pages.state.image
 truncate_image h k (Err f) (inl (fits, same, device)) on = ap (λ s. s.image) same
-truncate_image h k (Err f) (inr cut) on = cut.image
+truncate_image h k (Err f) (inr cut) on = cut.state.image
 
 flush_places : (h k : held.Held) (x : Result ℕ StoreFault) (done : List Act) (cut : Option Act) → store.Happens (store.flush x) (store.working h) done cut (store.working k) → law.places_at (store.working k) ≡ law.places_at (store.working h)
 flush_places h k x done cut (does, tried) = ap (λ (q : Plate). q.sectors - 64) (tried_plate (store.flush_plan h.state) h.disk done cut x k.disk tried)

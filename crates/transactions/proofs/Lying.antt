@@ -34,7 +34,7 @@ flush_lies s s' d e (Ok k) h (passes, count, inr (some, done, written, image, fr
     λ on.
     still_lies s s' d e written.log.places_is (done_plate d e (writing s (spooled s)) done) (h (on_past s [] passes))
 flush_lies s s' d e (Err f) h (inl (fits, state, device)) = same_lies s s' d e state device h
-flush_lies s s' d e (Err f) h (inr (passes, some, cut)) = off_lies s' e cut.off
+flush_lies s s' d e (Err f) h (inr (passes, some, cut)) = off_lies s' e cut.state.off
 
 entered_lies : (s s' : State) (d e : Disk) (flush : Bool) → OnLog s d → Enters s d flush s' e → OnLog s' e
 entered_lies s s' d e true h (done, written) =
@@ -52,7 +52,7 @@ commit_lies s s' d e number flush (Err f) h (inl (fits, state, device)) = same_l
 commit_lies s s' d e number flush (Err f) h (inr (passes, inl refused)) =
     λ on.
     still_lies s s' d e (ap (λ (l : Log). l.places) refused.state.1.log_is) (ap (λ (x : Disk). x.plate) refused.device) (h (on_past s (stranger s number ∷ []) passes))
-commit_lies s s' d e number flush (Err f) h (inr (passes, inr cut)) = off_lies s' e cut.cut.off
+commit_lies s s' d e number flush (Err f) h (inr (passes, inr cut)) = off_lies s' e cut.cut.state.off
 
 pub truncate_lies : (s s' : State) (d e : Disk) (r : Result ℕ StoreFault) → LiesOn s d → Truncates s d r s' e → LiesOn s' e
 truncate_lies s s' d e (Ok k) h (passes, inl none) = same_lies s s' d e none.state none.device h
@@ -61,13 +61,13 @@ truncate_lies s s' d e (Ok k) h (passes, inr pages) =
     still_lies s s' d e pages.state.log.places_is (done_plate d e (truncation s d.shows) pages.done)
     (h (on_past s (busy s ∷ serials s 0 ∷ crowded s (length (due_pages s d.shows)) ∷ []) passes))
 truncate_lies s s' d e (Err f) h (inl (fits, state, device)) = same_lies s s' d e state device h
-truncate_lies s s' d e (Err f) h (inr cut) = off_lies s' e cut.off
+truncate_lies s s' d e (Err f) h (inr cut) = off_lies s' e cut.state.off
 
 pub format_lies : (s : State) (d e : Disk) (r : Result (Unit {0}) StoreFault) → Formatted d r e s → LiesOn s e
 format_lies s d e (Ok u) (n, (divides, done), fresh) =
     λ on.
     omega (arith, divides.homes, fresh.log.places_is, ap (λ v. v.sectors) (done_plate d e (formatting n) done))
-format_lies s d e (Err f) (g, is, made, down) = off_lies s e down
+format_lies s d e (Err f) (g, is, made, blank) = off_lies s e blank.off
 
 pub open_lies : (s : State) (d e : Disk) (r : Result (ℕ × ℕ) StoreFault) → Opened d r e s → LiesOn s e
 open_lies s d e (Ok x) opened =
@@ -75,4 +75,4 @@ open_lies s d e (Ok x) opened =
     let restarted = ap (λ v. v.sectors) opened.restart.plate in
     let cleared = ap (λ v. v.sectors) (done_plate opened.restarted e (clearing opened.places opened.restarted.shows s.log.last) opened.cleared) in
     omega (arith, opened.divides.homes, opened.log_of)
-open_lies s d e (Err f) (g, memory, is, opens, down) = off_lies s e down
+open_lies s d e (Err f) (g, memory, is, opens, blank) = off_lies s e blank.off

@@ -88,11 +88,11 @@ roomy s k flush h =
     }
 
 -- power failed in writing
-pub writing_cut : (s s' : State) (d e : Disk) (items : List Item) (f : DeviceFault) → Tries d (writing s items) (Err f) e → s'.image ≡ s.image → s'.on ≡ false → CutWriting s d items (Device f) s' e
-writing_cut s s' d e items (Power o) h same off = record { origin = o; fault = refl; cut = h; image = same; off = off }
-writing_cut s s' d e items (Misaddressed x o) h same off = absurd h
-writing_cut s s' d e items Unfit h same off = absurd h
-writing_cut s s' d e items (Spoiled x o) h same off = absurd h
+pub writing_cut : (s s' : State) (d e : Disk) (items : List Item) (f : DeviceFault) → Tries d (writing s items) (Err f) e → state.TurnedOff s s' → CutWriting s d items (Device f) s' e
+writing_cut s s' d e items (Power o) h off = record { origin = o; fault = refl; cut = h; state = off }
+writing_cut s s' d e items (Misaddressed x o) h off = absurd h
+writing_cut s s' d e items Unfit h off = absurd h
+writing_cut s s' d e items (Spoiled x o) h off = absurd h
 
 -- something declared is at least one record
 pub some_records : (s : State) (k : ℕ) → k ≡ length (state.own s) → declared s.image ≢ [] → 1 ≤ k

@@ -16,7 +16,7 @@ use Rattle.transactions.specs.declared.state.State.{State}
 use Rattle.transactions.specs.Pages.{members, due_of, Tabulates}
 use Rattle.transactions.specs.Parts.{Spool, item_of, waiting}
 use Rattle.transactions.specs.Rows.{first_fit}
-use Rattle.transactions.specs.State.{live, spooled}
+use Rattle.transactions.specs.State.{live, spooled, TurnedOff}
 use Rattle.transactions.specs.Truncation.{in_items, is_dirty, is_due, dirty_pages, due_pages, crowded, truncating, truncation, PagesAnswer}
 use Rattle.transactions.proofs.Flagging.{chosen_same, chosen_has}
 
@@ -79,8 +79,8 @@ none_dirty s shows dirty e h = nil_from_length (dirty_pages s shows) (sym (ap le
 
 -- power failed in the plan
 pub pages_cut : (s s' : State) (d e : Disk) (f : DeviceFault) → first_fit (crowded s (length (due_pages s d.shows)) ∷ []) ≡ None → dirty_pages s d.shows ≢ []
-    → Tries d (truncation s d.shows) (Err f) e → s'.image ≡ s.image → s'.on ≡ false → PagesAnswer s d (Err (Device f)) s' e
-pages_cut s s' d e (Power o) passes some h image off = inr (passes, o, refl, some, h, image, off)
-pages_cut s s' d e (Misaddressed x o) passes some h image off = absurd h
-pages_cut s s' d e Unfit passes some h image off = absurd h
-pages_cut s s' d e (Spoiled x o) passes some h image off = absurd h
+    → Tries d (truncation s d.shows) (Err f) e → TurnedOff s s' → PagesAnswer s d (Err (Device f)) s' e
+pages_cut s s' d e (Power o) passes some h off = inr (passes, o, refl, some, h, off)
+pages_cut s s' d e (Misaddressed x o) passes some h off = absurd h
+pages_cut s s' d e Unfit passes some h off = absurd h
+pages_cut s s' d e (Spoiled x o) passes some h off = absurd h

@@ -15,7 +15,7 @@ use Rattle.transactions.specs.declared.state.State.{State}
 use Rattle.transactions.specs.declared.token.Token.{Token}
 use Rattle.transactions.specs.Fault.{from_image}
 use Rattle.transactions.specs.Rows.{first_fit, off, token_rows, commit_rows, begin_rows}
-use Rattle.transactions.specs.State.{spooled, own, MadeOf, StandsAt}
+use Rattle.transactions.specs.State.{spooled, own, MadeOf, StandsAt, TurnedOff}
 
 -- Begin: a token numbered one above the last ordinal, and a transaction is open; or a refusal, and nothing moved.
 abbrev pub Begins : State → Result Token StoreFault → State → Type 0
@@ -77,13 +77,12 @@ pub record SpooledUp (s : State) (items : List Item) (ordinal : ℕ) (s' : State
   pub waits : spooled s' ≡ spooled s ++ items
   pub on : s'.on ≡ true
 
--- Power failed while these records were written: the store is off, and its memory as it was.
+-- Power failed while these records were written: the store is off, and all else of it as it was.
 pub record CutWriting (s : State) (d : Disk) (items : List Item) (f : StoreFault) (s' : State) (e : Disk) : Type 0 where
   pub origin : ℕ
   pub fault : f ≡ Device (Power origin)
   pub cut : CutShort d (writing s items) origin e
-  pub image : s'.image ≡ s.image
-  pub off : s'.on ≡ false
+  pub state : TurnedOff s s'
 
 -- Flush writes the spool and answers how many records; an empty one writes nothing.
 abbrev pub Flushes : State → Disk → Result ℕ StoreFault → State → Disk → Type 0
@@ -124,7 +123,7 @@ pub record CommitRefused (s : State) (d : Disk) (flush : Bool) (f : StoreFault) 
   pub state : Undone s s'
   pub device : e ≡ d
 
--- A commit with flush in which power failed. The transaction is entered, so the memory keeps its bytes.
+-- A commit with flush in which power failed. The memory keeps the bytes of the transaction, which may be entered.
 pub record CommitCut (s : State) (d : Disk) (flush : Bool) (f : StoreFault) (s' : State) (e : Disk) : Type 0 where
   pub some : declared s.image ≢ []
   pub passes : first_fit (commit_rows s (length (own s)) flush) ≡ None

@@ -5,6 +5,7 @@ use Rattle.device.specs.Disk.{Disk}
 use Rattle.device.specs.Meaning.{Restarted}
 use Rattle.device.specs.Trace.{Done}
 use Rattle.journal.specs.Opening.{Finds}
+use Rattle.journal.specs.Pages.{unsaid}
 use Rattle.durability.specs.Items.{Item}
 use Rattle.image.specs.declared.state.Image.{Image}
 use Rattle.image.specs.Calls.{declared}
@@ -59,6 +60,23 @@ pub record Idle (s : State) : Type 0 where
   pub empty : array_vec_len s.spool ≡ 0
   pub before : s.image.before ≡ s.image.memory
 
+-- The store is off, and but for that as it was.
+pub record TurnedOff (s s' : State) : Type 0 where
+  pub off : s'.on ≡ false
+  pub image : s'.image ≡ s.image
+  pub spool : s'.spool ≡ s.spool
+  pub log : s'.log ≡ s.log
+  pub pages : s'.pages ≡ s.pages
+  pub busy : s'.busy ≡ s.busy
+
+-- A store that is off with nothing in it: zeros in its memory, and a log that was never set.
+pub record Blank (s : State) : Type 0 where
+  pub off : s.on ≡ false
+  pub log : StandsAt s.log 160 0 0 0
+  pub memory : s.image.memory ≡ replicate 6144 0
+  pub pages : s.pages ≡ unsaid
+  pub idle : Idle s
+
 -- A store on zeros, with the first mark of a log of n sectors.
 pub record Fresh (n : ℕ) (s : State) : Type 0 where
   pub on : s.on ≡ true
@@ -66,10 +84,10 @@ pub record Fresh (n : ℕ) (s : State) : Type 0 where
   pub memory : s.image.memory ≡ replicate 6144 0
   pub idle : Idle s
 
--- A format answers what making the log answers, and where it succeeds the store is on zeros; else it is off.
+-- A format answers what making the log answers, and where it succeeds the store is on zeros; else it is blank.
 abbrev pub Formatted : Disk → Result (Unit {0}) StoreFault → Disk → State → Type 0
 Formatted d (Ok _) e s = (n : ℕ) × Formats d (Ok n) e × Fresh n s
-Formatted d (Err f) e s = (g : RecoveryFault) × (f ≡ from_recovery g) × Formats d (Err g) e × (s.on ≡ false)
+Formatted d (Err f) e s = (g : RecoveryFault) × (f ≡ from_recovery g) × Formats d (Err g) e × Blank s
 
 -- A store that is open on what an opening found, after which the strays are cleared and settled.
 pub record OpenOn (d : Disk) (ordinal count : ℕ) (e : Disk) (s : State) : Type 0 where
@@ -85,7 +103,7 @@ pub record OpenOn (d : Disk) (ordinal count : ℕ) (e : Disk) (s : State) : Type
   pub idle : Idle s
 
 -- An opening answers the number found and the count of strays, and the store is open on that; or it
--- refuses, or power cuts it, and the store is off.
+-- refuses, or power cuts it, and the store is blank.
 abbrev pub Opened : Disk → Result (ℕ × ℕ) StoreFault → Disk → State → Type 0
 Opened d (Ok x) e s = OpenOn d x.0 x.1 e s
-Opened d (Err f) e s = (g : RecoveryFault) × (memory : List ℕ) × (f ≡ from_recovery g) × Opens d (Err g) e memory × (s.on ≡ false)
+Opened d (Err f) e s = (g : RecoveryFault) × (memory : List ℕ) × (f ≡ from_recovery g) × Opens d (Err g) e memory × Blank s

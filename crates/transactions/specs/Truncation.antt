@@ -14,7 +14,7 @@ use Rattle.transactions.specs.declared.fault.StoreFault.TheVariants.{Device, Ful
 use Rattle.transactions.specs.declared.state.State.{State}
 use Rattle.transactions.specs.Calls.{writing}
 use Rattle.transactions.specs.Rows.{Row, first_fit, off, busy, serials}
-use Rattle.transactions.specs.State.{live, spooled, StandsAt}
+use Rattle.transactions.specs.State.{live, spooled, StandsAt, TurnedOff}
 
 -- One of these items says so of page p; serials do not matter here.
 abbrev pub in_items : (Entry → ℕ → Bool) → List Item → ℕ → Bool
@@ -104,15 +104,14 @@ pub record TruncatesPages (s : State) (d : Disk) (k : ℕ) (s' : State) (e : Dis
   pub done : Done d (truncation s d.shows) e
   pub state : Truncated s (length (due_pages s d.shows)) s'
 
--- Power failed in a call of the plan, after all tests passed. The store is off, and its memory as it was.
+-- Power failed in a call of the plan, after all tests passed. The store is off, and all else of it as it was.
 pub record TruncateCut (s : State) (d : Disk) (f : StoreFault) (s' : State) (e : Disk) : Type 0 where
   pub passes : first_fit (truncate_rows s (length (due_pages s d.shows))) ≡ None
   pub some : dirty_pages s d.shows ≢ []
   pub origin : ℕ
   pub fault : f ≡ Device (Power origin)
   pub cut : CutShort d (truncation s d.shows) origin e
-  pub image : s'.image ≡ s.image
-  pub off : s'.on ≡ false
+  pub state : TurnedOff s s'
 
 -- The last of the tests, and what follows: too little log refuses, and nothing moves; else dirty pages go home, or
 -- power cuts that.
@@ -122,7 +121,7 @@ PagesAnswer s d (Ok k) s' e =
 PagesAnswer s d (Err f) s' e =
     ((first_fit (crowded s (length (due_pages s d.shows)) ∷ []) ≡ Some f) × (s' ≡ s) × (e ≡ d))
     ⊎ ((first_fit (crowded s (length (due_pages s d.shows)) ∷ []) ≡ None)
-    × (o : ℕ) × (f ≡ Device (Power o)) × (dirty_pages s d.shows ≢ []) × CutShort d (truncation s d.shows) o e × (s'.image ≡ s.image) × (s'.on ≡ false))
+    × (o : ℕ) × (f ≡ Device (Power o)) × (dirty_pages s d.shows ≢ []) × CutShort d (truncation s d.shows) o e × TurnedOff s s')
 
 -- Truncate answers how many pages were dirty; a row that fits refuses, and nothing moves.
 abbrev pub Truncates : State → Disk → Result ℕ StoreFault → State → Disk → Type 0

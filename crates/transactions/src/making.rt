@@ -1,8 +1,6 @@
 // A store's state as a format or an opening makes it.
-ghost use Rattle.std.specs.Prelude.{◌≡◌, false, replicate};
-ghost use Rattle.journal.specs.Pages.{unsaid};
 ghost use Rattle.transactions.specs.Pages.{TableStands};
-ghost use Rattle.transactions.specs.State.{Formatted, Opened, Idle};
+ghost use Rattle.transactions.specs.State.{Blank, Formatted, Opened};
 
 use crate::fault::StoreFault;
 use crate::log::Log;
@@ -16,10 +14,7 @@ use recovery::{format_log, open_log};
 
 // A store that is off, with nothing in it. The number of places is any that a log may have.
 pub(crate) fn off() -> State
-    ensures off { result.on ≡ false }
-    ensures zeros { result.image.memory ≡ replicate 6144 0 }
-    ensures idle { Idle result }
-    ensures table { result.pages ≡ unsaid }
+    ensures { Blank result }
 {
     State {
         image: Image::zeros(),
@@ -38,10 +33,7 @@ pub(crate) fn off() -> State
 
 // Formats the device, and sets the store on zeros.
 pub(crate) fn format_into<D: Device>(device: &mut D, state: &mut State) -> Result<(), StoreFault>
-    requires off { state.old.on ≡ false }
-    requires zeros { state.old.image.memory ≡ replicate 6144 0 }
-    requires idle { Idle state.old }
-    requires table { state.old.pages ≡ unsaid }
+    requires { Blank state.old }
     ensures formatted { Formatted (D.Device.disk device.old) result (D.Device.disk device.new) state.new }
     ensures table { TableStands state.new (D.Device.disk device.new) }
 {
@@ -57,19 +49,24 @@ pub(crate) fn format_into<D: Device>(device: &mut D, state: &mut State) -> Resul
 }
 
 // Opens the device, and sets the store on what was found. The memory is made in its place: until that is done, all of
-// its bytes are declared.
+// its bytes are declared, and where it is cut short nothing is left of it.
 pub(crate) fn open_into<D: Device>(
     device: &mut D,
     state: &mut State,
 ) -> Result<(u64, usize), StoreFault>
-    requires off { state.old.on ≡ false }
-    requires idle { Idle state.old }
+    requires { Blank state.old }
     ensures opened { Opened (D.Device.disk device.old) result (D.Device.disk device.new) state.new }
     ensures table { TableStands state.new (D.Device.disk device.new) }
 {
     let sectors = device.sectors();
     state.image.declare(0, MEMORY)?;
-    let found = open_log(device, &mut state.image.memory)?;
+    let found = match open_log(device, &mut state.image.memory) {
+        Ok(found) => found,
+        Err(fault) => {
+            *state = off();
+            return Err(StoreFault::from(fault));
+        }
+    };
     state.image.keep();
     state.log = Log {
         places: sectors - PAGES,

@@ -18,7 +18,7 @@ returns-in_err-commit_out g c =
         some = c.requires.some;
         passes = subst (λ (k : ℕ). first_fit (commit_rows s k true) ≡ None) c.requires.own c.requires.passes;
         flushing = refl;
-        cut = writing_cut s _ (g.D.Device.disk c.args.device.now) (g.D.Device.disk c.commit_out.new.device) (spooled s ++ own s) c.in_err-commit_out.field-0.0 c.in_err-commit_out.ensures refl refl;
+        cut = writing_cut s _ (g.D.Device.disk c.args.device.now) (g.D.Device.disk c.commit_out.new.device) (spooled s ++ own s) c.in_err-commit_out.field-0.0 c.in_err-commit_out.ensures record { off = refl; image = refl; spool = refl; log = refl; pages = refl; busy = refl };
       };
       table = off_stands _ (g.D.Device.disk c.commit_out.new.device) refl;
     }

@@ -9,4 +9,4 @@ returns-clause-table g c =
     let made = c.in_ok-places.ensures in
     formatted_stands c.in_ok-places.places _ (g.D.Device.disk c.args.device.now) (g.D.Device.disk c.format_log.new.device) (omega (arith, made.0.least)) made.1
     record { places_is = refl; low_is = refl; last_is = refl; ordinal_is = refl }
-    c.requires.idle.empty c.requires.table
+    c.requires.idle.empty c.requires.pages

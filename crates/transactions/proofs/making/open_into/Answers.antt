@@ -100,14 +100,14 @@ invariant_of-state-2 g c =
 
 pub invariant_of-state-4 : goal.invariant_of-state-4
 invariant_of-state-4 g c =
-    let b = found_bounds (g.D.Device.disk c.args.device.now) (g.D.Device.disk c.open_log.new.device) c.in_ok-found.found c.open_log.new.memory c.in_ok-found.ensures.opens in
+    let b = found_bounds (g.D.Device.disk c.args.device.now) (g.D.Device.disk c.open_log.new.device) c.in-Ok.found c.open_log.new.memory c.in-Ok.ensures.opens in
     record { bounded = omega (arith, b.0, c.requires.idle.empty); numbered = omega (arith, b.1) }
 
 pub returns-clause-opened : goal.returns-clause-opened
 returns-clause-opened g c =
     let d = g.D.Device.disk c.args.device.now in
     let k = c.keep.ensures in
-    set_on d (g.D.Device.disk c.open_log.new.device) c.in_ok-found.found c.open_log.new.memory _ c.in_ok-found.ensures.opens k.memory
+    set_on d (g.D.Device.disk c.open_log.new.device) c.in-Ok.found c.open_log.new.memory _ c.in-Ok.ensures.opens k.memory
     (record { places_is = ap (λ (j : ℕ). j - 64) c.sectors-sectors.ensures; low_is = refl; last_is = refl; ordinal_is = refl }) refl
     (record { free = c.requires.idle.free; clean = k.clean; empty = c.requires.idle.empty; before = k.before ∙ sym k.memory })
 
@@ -115,6 +115,6 @@ pub returns-clause-table : goal.returns-clause-table
 returns-clause-table g c =
     λ _.
     let d = g.D.Device.disk c.args.device.now in
-    found_stands d (g.D.Device.disk c.open_log.new.device) c.in_ok-found.found c.open_log.new.memory _ c.in_ok-found.ensures.opens
+    found_stands d (g.D.Device.disk c.open_log.new.device) c.in-Ok.found c.open_log.new.memory _ c.in-Ok.ensures.opens
     (record { places_is = ap (λ (j : ℕ). j - 64) c.sectors-sectors.ensures; low_is = refl; last_is = refl; ordinal_is = refl })
     c.requires.idle.empty refl

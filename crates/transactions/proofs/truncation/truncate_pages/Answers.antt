@@ -54,7 +54,7 @@ returns-in_err-truncate_out g c =
           (subst (λ (plan : List Act). Tries d plan (Err f) e)
           (plan_is s d.shows (members c.due-due.result.bits) (members c.dirty-dirty.result.bits) due dirty)
           c.in_err-truncate_out.ensures)
-          refl refl;
+          record { off = refl; image = refl; spool = refl; log = refl; pages = refl; busy = refl };
       table = off_stands _ e refl;
     }
 
