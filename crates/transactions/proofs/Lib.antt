@@ -10,3 +10,4 @@ pub mod Noting
 pub mod Tabling
 pub mod Lying
 pub mod Ruling
+pub mod Resting

@@ -38,6 +38,15 @@ OnLog s d = s.log.places + 64 ≡ d.plate.sectors
 abbrev pub LiesOn : State → Disk → Type 0
 LiesOn s d = s.on ≡ true → OnLog s d
 
+-- Nothing is declared, and the memory is as at begin.
+pub record Untouched (s : State) : Type 0 where
+  pub clean : declared s.image ≡ []
+  pub before : s.image.before ≡ s.image.memory
+
+-- So it is while the store is on and no transaction is open.
+abbrev pub Rests : State → Type 0
+Rests s = s.on ≡ true → s.busy ≡ false → Untouched s
+
 -- The store consists of these.
 pub record MadeOf (s : State) (image : Image) (spool : Spool) (log : Log) (busy on : Bool) : Type 0 where
   pub image_is : s.image ≡ image

@@ -1,6 +1,6 @@
 // A store over a device, and its calls.
 ghost use Rattle.std.specs.Prelude.{◌≡◌};
-ghost use Rattle.transactions.specs.State.{LiesOn};
+ghost use Rattle.transactions.specs.State.{LiesOn, Rests};
 ghost use Rattle.transactions.specs.Pages.{TableStands};
 
 use crate::calls::{commit_store, flush_store};
@@ -21,6 +21,8 @@ pub struct Store<D: Device> {
     pub ghost lies: { LiesOn state (D.Device.disk device) },
     // While it is on, its page table says what its live records and those that wait say.
     pub ghost table: { TableStands state (D.Device.disk device) },
+    // While it is on and no transaction is open, nothing is declared, and its memory is as at begin.
+    pub ghost rests: { Rests state },
 }
 
 impl<D: Device> Store<D> {
