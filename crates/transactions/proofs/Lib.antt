@@ -11,3 +11,4 @@ pub mod Tabling
 pub mod Lying
 pub mod Ruling
 pub mod Resting
+pub mod Ordered

@@ -9,3 +9,4 @@ pub mod Truncation
 pub mod Pages
 pub mod Dirty
 pub mod Held
+pub mod Order

@@ -1,8 +1,9 @@
 // Why a store says no. It holds the device's fault whole.
-ghost use Rattle.transactions.specs.Fault.{number, from_recovery, from_image};
+ghost use Rattle.transactions.specs.Fault.{number, values, from_recovery, from_image};
 ghost use Rattle.transactions.specs.declared.fault.StoreFault.TheVariants.{Device};
-ghost use Rattle.std.specs.Prelude.{◌≡◌};
+ghost use Rattle.std.specs.Prelude.{◌≡◌, [], ◌∷◌};
 
+use arrayvec::ArrayVec;
 use device::DeviceFault;
 use image::ImageFault;
 use recovery::RecoveryFault;
@@ -72,6 +73,23 @@ impl From<ImageFault> for StoreFault {
     }
 }
 
+// The values of a refusal that returns one, and of one that returns two.
+fn one(value: u64) -> ArrayVec<u64, 2>
+    ensures { result.items ≡ value ∷ [] }
+{
+    let mut values = ArrayVec::new();
+    values.push(value);
+    values
+}
+
+fn two(first: u64, second: u64) -> ArrayVec<u64, 2>
+    ensures { result.items ≡ first ∷ second ∷ [] }
+{
+    let mut values = one(first);
+    values.push(second);
+    values
+}
+
 impl StoreFault {
     // The number of this refusal in the table of refusals, which is promised beside the enum and made of it alone.
     pub fn number(&self) -> u8
@@ -91,6 +109,34 @@ impl StoreFault {
             StoreFault::Serials(_) => 14,
             StoreFault::Full(_) => 15,
             StoreFault::SpoolFull(_) => 16,
+        }
+    }
+
+    // The values that this refusal returns, in their order: at most a sector and an origin.
+    pub fn values(&self) -> ArrayVec<u64, 2>
+        ensures { result.items ≡ values self.now }
+    {
+        match *self {
+            StoreFault::Device(DeviceFault::Power(origin)) => one(origin as u64),
+            StoreFault::Device(DeviceFault::Misaddressed(sector, origin)) => {
+                two(sector as u64, origin as u64)
+            }
+            StoreFault::Device(DeviceFault::Spoiled(sector, origin)) => {
+                two(sector as u64, origin as u64)
+            }
+            StoreFault::Device(DeviceFault::Unfit) => ArrayVec::new(),
+            StoreFault::NoLog => ArrayVec::new(),
+            StoreFault::Size(value) => one(value as u64),
+            StoreFault::Uncovered(value) => one(value as u64),
+            StoreFault::Range(value) => one(value as u64),
+            StoreFault::Runs(value) => one(value as u64),
+            StoreFault::Undeclared(value) => one(value as u64),
+            StoreFault::SpoolFull(value) => one(value as u64),
+            StoreFault::NoMark(value) => one(value),
+            StoreFault::Busy(value) => one(value),
+            StoreFault::Stranger(value) => one(value),
+            StoreFault::Serials(value) => one(value),
+            StoreFault::Full(value) => one(value),
         }
     }
 }
