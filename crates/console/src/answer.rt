@@ -100,24 +100,10 @@ fn write_values<W: fmt::Write>(f: &mut fmt::Formatter<W>, fault: &LedgerFault) -
 }
 
 fn write_store_values<W: fmt::Write>(f: &mut fmt::Formatter<W>, fault: &StoreFault) -> fmt::Result {
-    match fault {
-        StoreFault::Device(DeviceFault::Power(origin)) => write!(f, " {origin}"),
-        StoreFault::Device(
-            DeviceFault::Misaddressed(sector, origin) | DeviceFault::Spoiled(sector, origin),
-        ) => write!(f, " {sector} {origin}"),
-        StoreFault::Device(DeviceFault::Unfit) | StoreFault::NoLog => Ok(()),
-        StoreFault::Size(value)
-        | StoreFault::Uncovered(value)
-        | StoreFault::Range(value)
-        | StoreFault::Runs(value)
-        | StoreFault::Undeclared(value)
-        | StoreFault::SpoolFull(value) => write!(f, " {value}"),
-        StoreFault::NoMark(value)
-        | StoreFault::Busy(value)
-        | StoreFault::Stranger(value)
-        | StoreFault::Serials(value)
-        | StoreFault::Full(value) => write!(f, " {value}"),
+    for value in fault.values().iter() {
+        write!(f, " {value}")?;
     }
+    Ok(())
 }
 
 impl fmt::Display for Refusal {
