@@ -48,7 +48,7 @@ pub record Set (start size : ℕ) (s m : State) : Type 0 where
 set_passes : (s m : State) (number start size : ℕ) (r : Result (Unit {0}) StoreFault) → Underway s number → length (declared s.image) + 1 < 17
     → 1 ≤ size → start + size ≤ 6144 → calls.SetsRange s number start size r m → (r ≡ Ok tt) × Set start size s m
 set_passes s m number start size (Ok _) u few some inside (fits, more, made) = (refl, record { more = more; made = made })
-set_passes s m number start size (Err f) u few some inside (inl (fits, same)) = absurd (some_none (first_fit (token_rows s number)) f (token_fits s number u) fits)
+set_passes s m number start size (Err f) u few some inside (inl (fits, same)) = absurd (some_none (first_fit (token_rows s number)) _ (token_fits s number u) fits)
 set_passes s m number start size (Err f) u few some inside (inr (Range at, fits, is, refused, made)) = absurd (out refused.out)
   where
     out : (size ≡ 0) ⊎ (6144 < start + size) → ⊥
@@ -74,7 +74,7 @@ write_passes : (m p : State) (number start : ℕ) (bytes : List ℕ) (r : Result
     → ((i : ℕ) → start ≤ i → i < start + length bytes → Declared (declared m.image) i)
     → 1 ≤ length bytes → start + length bytes ≤ 6144 → calls.WritesRange m number start bytes r p → (r ≡ Ok tt) × Got start bytes m p
 write_passes m p number start bytes (Ok _) u all some inside (fits, written, made) = (refl, record { written = written; made = made })
-write_passes m p number start bytes (Err f) u all some inside (inl (fits, same)) = absurd (some_none (first_fit (token_rows m number)) f (token_fits m number u) fits)
+write_passes m p number start bytes (Err f) u all some inside (inl (fits, same)) = absurd (some_none (first_fit (token_rows m number)) _ (token_fits m number u) fits)
 write_passes m p number start bytes (Err f) u all some inside (inr (Range at, fits, is, refused, made)) = absurd (out refused.out)
   where
     out : (length bytes ≡ 0) ⊎ (6144 < start + length bytes) → ⊥

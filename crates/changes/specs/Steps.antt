@@ -4,7 +4,7 @@ use Rattle.image.specs.Calls.{declared}
 use Rattle.transactions.specs.declared.fault.StoreFault.{StoreFault}
 use Rattle.transactions.specs.declared.state.State.{State}
 use Rattle.transactions.specs.Held.{Held, Aborts, Commits}
-use Rattle.transactions.specs.Rows.{first_fit, begin_rows}
+use Rattle.transactions.specs.Rows.{first_fit, Refuses, begin_rows}
 use Rattle.book.specs.Edits.{Edit, edited, declaring, make_edits}
 use Rattle.plans.specs.Plans.{edits_of}
 use Rattle.changes.specs.declared.performing.Work.{Work}
@@ -47,5 +47,5 @@ Finishes (Err f) number flush h r k =
 -- A change where no transaction may begin is refused, and nothing moves. On a store with nothing declared it is made.
 abbrev pub Performs : List Edit → Bool → Held → Result (ℕ × ℕ) StoreFault → Held → Type 0
 Performs xs flush h r k =
-    ((f : StoreFault) × (first_fit (begin_rows h.state) ≡ Some f) × (r ≡ Err f) × (k ≡ h))
+    ((f : StoreFault) × (Refuses (begin_rows h.state) f) × (r ≡ Err f) × (k ≡ h))
     ⊎ ((first_fit (begin_rows h.state) ≡ None) × (declared h.state.image ≡ [] → Changes h xs flush r k))

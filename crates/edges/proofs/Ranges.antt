@@ -35,7 +35,7 @@ joined_more f t (r ∷ rs) =
     (cases_lt t r.from)
 
 -- a refusal of a test that passed
-pub not_both : (o : Option StoreFault) (f : StoreFault) → o ≡ None → o ≡ Some f → ⊥
+pub not_both : (o : Option (ℕ × List ℕ)) (f : ℕ × List ℕ) → o ≡ None → o ≡ Some f → ⊥
 not_both None f h k = let z : ◌≡◌ {A = ℕ} 0 1 = cc in omega (arith, z)
 not_both (Some g) f h k = let z : ◌≡◌ {A = ℕ} 0 1 = cc in omega (arith, z)
 
@@ -49,7 +49,7 @@ last_byte x y (image.Undeclared b) few h = h
 
 pub last_byte_declared : LastByteDeclared
 last_byte_declared s s' token (Ok tt) fits few h = refl
-last_byte_declared s s' token (Err f) fits few (inl (row, same)) = absurd (not_both (first_fit (token_rows s token)) f fits row)
+last_byte_declared s s' token (Err f) fits few (inl (row, same)) = absurd (not_both (first_fit (token_rows s token)) _ fits row)
 last_byte_declared s s' token (Err f) fits few (inr (g, row, is, does, made)) = absurd (last_byte s.image s'.image g few does)
 
 -- what it does with one that doesn't
@@ -62,7 +62,7 @@ past_the_end size x y (image.Undeclared b) out h = absurd h
 refused : (size : ℕ) → OutOfRange 6143 size → (s s' : State) (token : ℕ) (r : Result (Unit {0}) StoreFault) → Fitting s token → SetsRange s token 6143 size r s' → (r ≡ Err (Range 6143)) × MadeOf s' s.image s.spool s.log s.busy s.on
 refused size out s s' token (Ok u) fits (row, does, made) =
     absurd (⊎_elim (λ none. omega (arith, none, does.in_range.0)) (λ past. omega (arith, past, does.in_range.1)) out)
-refused size out s s' token (Err f) fits (inl (row, same)) = absurd (not_both (first_fit (token_rows s token)) f fits row)
+refused size out s s' token (Err f) fits (inl (row, same)) = absurd (not_both (first_fit (token_rows s token)) _ fits row)
 refused size out s s' token (Err f) fits (inr (g, row, is, does, made)) =
     let h = past_the_end size s.image s'.image g out does in (
       ap Err (is ∙ ap from_image h.0),

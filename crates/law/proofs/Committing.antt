@@ -85,12 +85,12 @@ made_own s h i before =
 
 -- no row fits: each test is false
 
-pub no_fit : (row : Row) (rows : List Row) → first_fit (row ∷ rows) ≡ None → (row.0 ≡ false) × (first_fit rows ≡ None)
-no_fit row rows e = go row.0 row.1 (first_fit rows) e
+pub no_fit : (row : Row) (rows : List Row) → first_fit (row ∷ rows) ≡ None → (row.fits ≡ false) × (first_fit rows ≡ None)
+no_fit row rows e = go row.fits (first_fit rows) e
   where
-    go : (b : Bool) (f : StoreFault) (o : Option StoreFault) → cond b (Some f) o ≡ None → (b ≡ false) × (o ≡ None)
-    go true f o k = absurd (let z : ◌≡◌ {A = ℕ} 0 1 = cc in omega arith)
-    go false f o k = (refl, k)
+    go : (b : Bool) (o : Option (ℕ × List ℕ)) → cond b (Some (row.number, row.values)) o ≡ None → (b ≡ false) × (o ≡ None)
+    go true o k = absurd (let z : ◌≡◌ {A = ℕ} 0 1 = cc in omega arith)
+    go false o k = (refl, k)
 
 -- There are serials and places for k records more.
 record RoomFor (s : State) (k : ℕ) : Type 0 where

@@ -90,7 +90,7 @@ batch_made n low last count items ts done rest more is e h =
     let r = first_made n low last (batch count ts) done rest more (e ∙ ap (λ (ys : List Item). appending n low last ys ++ (settled ∷ more)) is) h in
     subst (λ (acts : List Act). AllSettled n count ts acts) (sym r.1) (batch_settled n low last count ts (settled ∷ r.0) tt)
 
-none_of : (o : Option StoreFault) → fits_none o ≡ true → o ≡ None
+none_of : (o : Option (ℕ × List ℕ)) → fits_none o ≡ true → o ≡ None
 none_of None e = refl
 none_of (Some f) e = absurd (both_ways false refl e)
 

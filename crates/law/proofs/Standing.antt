@@ -1,5 +1,5 @@
 -- How a store and its device stand with what is entered and kept, and what keeps that.
-use Rattle.std.proofs.Common.{◌≡◌, ℕ, ◌+◌, Bool, true, false, not, ◌&&◌, eqb, ◌⊎◌, List, [], ◌∷◌, get_or, take, Some, None, Ok, sym, refl, ap, ◌∙◌, subst, inl, inr, arith}
+use Rattle.std.proofs.Common.{◌≡◌, ℕ, ◌+◌, Bool, true, false, cond, not, ◌&&◌, eqb, ◌⊎◌, List, [], ◌∷◌, get_or, take, Some, None, Ok, sym, refl, ap, ◌∙◌, subst, inl, inr, arith}
 use Rattle.arrayvec.specs.ArrayVec.{array_vec_len}
 use Rattle.std.proofs.lemmas.Bool.{both_ways, not-false, and_parts}
 use Rattle.device.specs.Disk.{Disk}
@@ -10,7 +10,8 @@ use Rattle.transactions.specs.declared.fault.StoreFault.{StoreFault}
 use Rattle.transactions.specs.declared.log.Log.{Log}
 use Rattle.transactions.specs.declared.state.State.{State}
 use Rattle.transactions.specs.Parts.{Spool, waiting}
-use Rattle.transactions.specs.Rows.{Row, first_fit, off, busy, stranger, token_rows}
+use Rattle.transactions.specs.Fault.{number, values}
+use Rattle.transactions.specs.Rows.{Row, first_fit, Refuses, off, busy, stranger, token_rows}
 use Rattle.transactions.specs.State.{Formatted, MadeOf}
 use Rattle.law.specs.Transactions.{made_of}
 use Rattle.law.proofs.History.{History, Resting, Safe, Sound, nothing_entered}
@@ -76,12 +77,12 @@ shown s k e =
     let fit = s.busy && eqb k (s.log.ordinal + 1) in
     (not-false s.on a.0, (and_parts s.busy (eqb k (s.log.ordinal + 1)) (not-false fit b.0)).0)
 
-pub asleep : (s : State) (f : StoreFault) → first_fit (off s ∷ []) ≡ Some f → s.on ≡ false
-asleep s f e = go s.on e
+pub asleep : (s : State) (f : StoreFault) → Refuses (off s ∷ []) f → s.on ≡ false
+asleep s f e = go ((off s).number, (off s).values) (number f, values f) s.on e
   where
-    go : (b : Bool) → first_fit ((not b, (off s).1) ∷ []) ≡ Some f → b ≡ false
-    go true k = absurd (let z : ◌≡◌ {A = ℕ} 0 1 = cc in omega arith)
-    go false k = refl
+    go : (x y : ℕ × List ℕ) (b : Bool) → cond (not b) (Some x) None ≡ Some y → b ≡ false
+    go x y true k = absurd (let z : ◌≡◌ {A = ℕ} 0 1 = cc in omega arith)
+    go x y false k = refl
 
 -- a new store
 

@@ -14,7 +14,7 @@ use Rattle.image.proofs.Cutting.{runs_lay, runs_fit, runs_none}
 use Rattle.transactions.specs.declared.fault.StoreFault.{StoreFault}
 use Rattle.transactions.specs.declared.state.State.{State}
 use Rattle.transactions.specs.declared.token.Token.{Token}
-use Rattle.transactions.specs.Rows.{first_fit, busy, token_rows, commit_rows}
+use Rattle.transactions.specs.Rows.{first_fit, Refuses, busy, token_rows, commit_rows}
 use Rattle.transactions.specs.State.{MadeOf, spooled, own}
 use Rattle.transactions.specs.Calls.{Begins, SetsRange, WritesRange, OnImage, Undone, Aborts, Flushes, Commits, CommitsNothing, CommitsParts, CommitCut, writing}
 use Rattle.law.specs.Transactions.{Transaction}
@@ -132,7 +132,7 @@ passing s t flush a some c =
 
 -- where nothing is declared or a row fits, it is not
 
-pub token_fits : (s : State) (t : ℕ) (flush : Bool) (f : StoreFault) → first_fit (token_rows s t) ≡ Some f → does_enter s t flush ≡ false
+pub token_fits : (s : State) (t : ℕ) (flush : Bool) (f : StoreFault) → Refuses (token_rows s t) f → does_enter s t flush ≡ false
 token_fits s t flush f fits =
     let first = fits_none (first_fit (token_rows s t)) in
     let second = not (none (declared s.image)) in
@@ -145,7 +145,7 @@ none_declared s t flush clean =
     and_left (first && second) (fits_none (first_fit (commit_rows s (length (own s)) flush)))
     (and_right first second (ap (λ (rs : List Run). not (none rs)) clean))
 
-pub room_fits : (s : State) (t : ℕ) (flush : Bool) (f : StoreFault) → first_fit (commit_rows s (length (own s)) flush) ≡ Some f → does_enter s t flush ≡ false
+pub room_fits : (s : State) (t : ℕ) (flush : Bool) (f : StoreFault) → Refuses (commit_rows s (length (own s)) flush) f → does_enter s t flush ≡ false
 room_fits s t flush f fits =
     and_right (fits_none (first_fit (token_rows s t)) && not (none (declared s.image))) (fits_none (first_fit (commit_rows s (length (own s)) flush))) (ap fits_none fits)
 

@@ -23,7 +23,7 @@ use Rattle.image.proofs.Cutting.{runs_lay, runs_fit, runs_none}
 use Rattle.transactions.specs.declared.fault.StoreFault.{StoreFault}
 use Rattle.transactions.specs.declared.state.State.{State}
 use Rattle.transactions.specs.Calls.{writing}
-use Rattle.transactions.specs.Rows.{first_fit, busy, serials}
+use Rattle.transactions.specs.Rows.{first_fit, Refuses, busy, serials}
 use Rattle.transactions.specs.State.{spooled}
 use Rattle.transactions.specs.Truncation.{dirty_pages, due_pages, crowded, covered_to, truncate_rows, flushing, covering, going_home, truncation, Truncated, Truncates}
 use Rattle.law.specs.Transactions.{Transaction, made_of, batch}
@@ -183,7 +183,7 @@ module _ (s : State) (d : Disk) (h : History) (r : Resting s.log.places d s h) (
 
 -- when a truncation writes, and when it doesn't
 
-abbrev fit : State → Disk → Option StoreFault
+abbrev fit : State → Disk → Option (ℕ × List ℕ)
 fit s d = first_fit (truncate_rows s (length (due_pages s d.shows)))
 
 abbrev pages : State → Disk → ℕ
@@ -201,10 +201,10 @@ pub idle_clean : (s : State) (d : Disk) → dirty_pages s d.shows ≡ [] → doe
 idle_clean s d clean =
     and_right (fits_none (fit s d)) (leb 1 (pages s d)) (lt-leb 1 (pages s d) (omega (arith, ap length clean)))
 
-pub idle_refused : (s : State) (d : Disk) (f : StoreFault) → first_fit (truncate_rows s (length (due_pages s d.shows))) ≡ Some f → does_truncate s d.shows ≡ false
+pub idle_refused : (s : State) (d : Disk) (f : StoreFault) → Refuses (truncate_rows s (length (due_pages s d.shows))) f → does_truncate s d.shows ≡ false
 idle_refused s d f fits = and_left (fits_none (fit s d)) (leb 1 (pages s d)) (ap fits_none fits)
 
-none_of : (o : Option StoreFault) → fits_none o ≡ true → o ≡ None
+none_of : (o : Option (ℕ × List ℕ)) → fits_none o ≡ true → o ≡ None
 none_of None e = refl
 none_of (Some f) e = absurd (both_ways false refl e)
 

@@ -93,7 +93,7 @@ OpeningTried d done (Some act) (Err f) k =
     × CutAt m (replicate looks looked ++ clearing n m.shows c) more act o k.disk))
 
 -- No row fits.
-abbrev pub fits_none : Option StoreFault → Bool
+abbrev pub fits_none : Option (ℕ × List ℕ) → Bool
 fits_none None = true
 fits_none (Some _) = false
 

@@ -14,7 +14,7 @@ use Rattle.transactions.specs.declared.fault.StoreFault.{StoreFault}
 use Rattle.transactions.specs.declared.log.Log.{Log}
 use Rattle.transactions.specs.declared.state.State.{State}
 use Rattle.transactions.specs.Parts.{Spool}
-use Rattle.transactions.specs.Rows.{first_fit, begin_rows, token_rows, commit_rows}
+use Rattle.transactions.specs.Rows.{first_fit, Refuses, begin_rows, token_rows, commit_rows}
 use Rattle.transactions.specs.State.{Fresh, own}
 use Rattle.transactions.specs.Held.{Held, Formatted}
 use Rattle.transactions.proofs.Loops.{length_parts}
@@ -76,8 +76,8 @@ blank_memory n s new =
         (cases_lt i 6144)
 
 -- what was formatted may begin
-may_begin : (s : State) (f : StoreFault) → s.on ≡ true → s.busy ≡ false → first_fit (begin_rows s) ≡ Some f → ⊥
-may_begin s f on free fits = some_none (first_fit (begin_rows s)) f (rw (on, free) refl) fits
+may_begin : (s : State) (f : StoreFault) → s.on ≡ true → s.busy ≡ false → Refuses (begin_rows s) f → ⊥
+may_begin s f on free fits = some_none (first_fit (begin_rows s)) _ (rw (on, free) refl) fits
 
 make_answer : (new k : Held) (n : ℕ) (x : ℕ × ℕ) → Fresh n new.state → Committed new.state new.disk make_edits true (Ok x) k.state k.disk → x ≡ (1, 52)
 make_answer new k n x fresh (p, made, (fits, inl none)) =
@@ -90,9 +90,9 @@ make_answer new k n x fresh (p, made, (fits, inr parts)) =
     ∙ ap (λ (k : ℕ). (1, k)) (make_records new.state p made)
 
 make_power : (new k : Held) (n : ℕ) (f : StoreFault) → Fresh n new.state → Committed new.state new.disk make_edits true (Err f) k.state k.disk → number (Store f) ≡ 1
-make_power new k n f fresh (p, made, inl (fits, same, device)) = absurd (some_none (first_fit (token_rows p (new.state.log.ordinal + 1))) f (own_token new.state p make_edits made) fits)
+make_power new k n f fresh (p, made, inl (fits, same, device)) = absurd (some_none (first_fit (token_rows p (new.state.log.ordinal + 1))) _ (own_token new.state p make_edits made) fits)
 make_power new k n f fresh (p, made, inr (fits, inl refused)) =
-    absurd (some_none (first_fit (commit_rows p (length (own p)) true)) f (make_room n new.state p fresh made) refused.refused)
+    absurd (some_none (first_fit (commit_rows p (length (own p)) true)) _ (make_room n new.state p fresh made) refused.refused)
 make_power new k n f fresh (p, made, inr (fits, inr cut)) = ap (λ (g : StoreFault). number (Store g)) cut.cut.fault
 
 new_holds : (new k : Held) (n : ℕ) (x : ℕ × ℕ) → Fresh n new.state → Changes new make_edits true (Ok x) k → HoldsBook k.state new_book

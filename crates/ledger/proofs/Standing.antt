@@ -89,7 +89,7 @@ own_token s p xs made =
 
 pub undone_leaves : (s s' : State) (d e : Disk) (xs : List Edit) (flush : Bool) (f : StoreFault) → declared s.image ≡ [] → Committed s d xs flush (Err f) s' e → s'.on ≡ true → Left s s'
 undone_leaves s s' d e xs flush f clean (p, made, inl (fits, same, device)) awake =
-    absurd (some_none (first_fit (token_rows p (s.log.ordinal + 1))) f (own_token s p xs made) fits)
+    absurd (some_none (first_fit (token_rows p (s.log.ordinal + 1))) _ (own_token s p xs made) fits)
 undone_leaves s s' d e xs flush f clean (p, made, inr (fits, inl refused)) awake =
     record {
       memory = refused.state.0.memory ∙ made.before ∙ unchanged s.image clean;

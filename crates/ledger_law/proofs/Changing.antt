@@ -10,7 +10,7 @@ use Rattle.transactions.specs.declared.fault.StoreFault.{StoreFault}
 use Rattle.transactions.specs.declared.log.Log.{Log}
 use Rattle.transactions.specs.declared.state.State.{State}
 use Rattle.transactions.specs.Held as held
-use Rattle.transactions.specs.Rows.{first_fit, token_rows, commit_rows}
+use Rattle.transactions.specs.Rows.{first_fit, Refuses, token_rows, commit_rows}
 use Rattle.transactions.specs.State.{own}
 use Rattle.law.specs.Transactions.{Transaction, made_of}
 use Rattle.law.specs.Kept.{Entered}
@@ -56,7 +56,7 @@ module _ (s : State) (number : ℕ) (flushed : Bool) where
   clean_passes : declared s.image ≡ [] → store.does_enter s number flushed ≡ false
   clean_passes clean = and_left (first && second) third (and_right first second (ap (λ (rs : List Run). not (none rs)) clean))
 
-  refused_passes : (f : StoreFault) → first_fit (commit_rows s (length (own s)) flushed) ≡ Some f → store.does_enter s number flushed ≡ false
+  refused_passes : (f : StoreFault) → Refuses (commit_rows s (length (own s)) flushed) f → store.does_enter s number flushed ≡ false
   refused_passes f fits = and_right (first && second) third (ap store.fits_none fits)
 
 -- The memory of a ledger is that of this store, and nothing is declared.
@@ -84,7 +84,7 @@ leaving h k xs flushed (Ok x) c clean (fits, inl n) =
 leaving h k xs flushed (Ok x) c clean (fits, inr parts) =
     inl (passing c.prepared.state c.token.number flushed fits parts.some parts.passes, λ on. record { memory = parts.image.memory; clean = parts.image.clean })
 leaving h k xs flushed (Err f) c clean (inl (fits, same, device)) =
-    absurd (some_none (first_fit (token_rows c.prepared.state c.token.number)) f
+    absurd (some_none (first_fit (token_rows c.prepared.state c.token.number)) _
     (token_fits c.prepared.state c.token.number
     (record { on = c.prepares.on; busy = c.prepares.busy; fits = c.begins.0.1 ∙ sym (ap (λ (l : Log). l.ordinal + 1) c.prepares.log) }))
     fits)

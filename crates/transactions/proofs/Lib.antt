@@ -12,3 +12,4 @@ pub mod Lying
 pub mod Ruling
 pub mod Resting
 pub mod Ordered
+pub mod Faults

@@ -72,15 +72,18 @@ pub record Roomy (s : State) (k : ℕ) (flush : Bool) : Type 0 where
   pub places : live s + array_vec_len s.spool + k ≤ s.log.places - 65
   pub spool : flush ≡ false → array_vec_len s.spool + k ≤ 32
 
-none_fits : (b : Bool) (f : StoreFault) (rest : Option StoreFault) → cond b (Some f) rest ≡ None → (b ≡ false) × (rest ≡ None)
-none_fits true f rest h = let z : ◌≡◌ {A = ℕ} 0 1 = cc in absurd (omega arith)
-none_fits false f rest h = (refl, h)
+none_fits : (row : Row) (rows : List Row) → first_fit (row ∷ rows) ≡ None → (row.fits ≡ false) × (first_fit rows ≡ None)
+none_fits row rows h = go row.fits (first_fit rows) h
+  where
+    go : (b : Bool) (rest : Option (ℕ × List ℕ)) → cond b (Some (row.number, row.values)) rest ≡ None → (b ≡ false) × (rest ≡ None)
+    go true rest h = let z : ◌≡◌ {A = ℕ} 0 1 = cc in absurd (omega arith)
+    go false rest h = (refl, h)
 
 pub roomy : (s : State) (k : ℕ) (flush : Bool) → first_fit (commit_rows s k flush) ≡ None → Roomy s k flush
 roomy s k flush h =
-    let one = none_fits (serials s k).0 (serials s k).1 (first_fit (full s k ∷ spool_full s k flush ∷ [])) h in
-    let two = none_fits (full s k).0 (full s k).1 (first_fit (spool_full s k flush ∷ [])) one.1 in
-    let three = none_fits (spool_full s k flush).0 (spool_full s k flush).1 None two.1 in
+    let one = none_fits (serials s k) (full s k ∷ spool_full s k flush ∷ []) h in
+    let two = none_fits (full s k) (spool_full s k flush ∷ []) one.1 in
+    let three = none_fits (spool_full s k flush) [] two.1 in
     record {
       serials = ltb-false (2 ^ 63 - 1) (s.log.last + array_vec_len s.spool + k + 65) one.0;
       places = ltb-false (s.log.places - 65) (live s + array_vec_len s.spool + k) two.0;
@@ -106,7 +109,7 @@ some_records s k e some =
 
 -- a call that is past its first test is one of a store that is on
 pub on_past : (s : State) (rest : List Row) → first_fit (off s ∷ rest) ≡ None → s.on ≡ true
-on_past s rest h = not_false s.on (none_fits (off s).0 (off s).1 (first_fit rest) h).0
+on_past s rest h = not_false s.on (none_fits (off s) rest h).0
   where
     not_false : (b : Bool) → not b ≡ false → b ≡ true
     not_false true e = refl

@@ -14,14 +14,14 @@ use Rattle.transactions.specs.declared.fault.StoreFault.TheVariants.{Device}
 use Rattle.transactions.specs.declared.state.State.{State}
 use Rattle.transactions.specs.declared.token.Token.{Token}
 use Rattle.transactions.specs.Fault.{from_image}
-use Rattle.transactions.specs.Rows.{first_fit, off, token_rows, commit_rows, begin_rows}
+use Rattle.transactions.specs.Rows.{first_fit, Refuses, off, token_rows, commit_rows, begin_rows}
 use Rattle.transactions.specs.State.{spooled, own, MadeOf, StandsAt, TurnedOff}
 
 -- Begin: a token numbered one above the last ordinal, and a transaction is open; or a refusal, and nothing moved.
 abbrev pub Begins : State → Result Token StoreFault → State → Type 0
 Begins s (Ok t) s' =
     (first_fit (begin_rows s) ≡ None) × (t.number ≡ s.log.ordinal + 1) × MadeOf s' s.image s.spool s.log true s.on
-Begins s (Err f) s' = (first_fit (begin_rows s) ≡ Some f) × (s' ≡ s)
+Begins s (Err f) s' = Refuses (begin_rows s) f × (s' ≡ s)
 
 -- A call that is shown a token and works on the memory alone: a row that fits refuses and nothing moves;
 -- else the memory answers, and nothing but the memory moves.
@@ -29,7 +29,7 @@ abbrev pub OnImage : State → ℕ → (Result (Unit {0}) ImageFault → Image �
 OnImage s number does (Ok u) s' =
     (first_fit (token_rows s number) ≡ None) × does (Ok u) s'.image × MadeOf s' s'.image s.spool s.log s.busy s.on
 OnImage s number does (Err f) s' =
-    ((first_fit (token_rows s number) ≡ Some f) × (s' ≡ s))
+    (Refuses (token_rows s number) f × (s' ≡ s))
     ⊎ ((g : ImageFault) × (first_fit (token_rows s number) ≡ None) × (f ≡ from_image g) × does (Err g) s'.image
     × MadeOf s' s'.image s.spool s.log s.busy s.on)
 
@@ -44,13 +44,13 @@ WritesRange s number start bytes r s' = OnImage s number (Writes start bytes s.i
 abbrev pub ReadsRange : State → ℕ → List ℕ → Result (Unit {0}) StoreFault → List ℕ → Type 0
 ReadsRange s start before (Ok u) after = (first_fit (off s ∷ []) ≡ None) × Reads start s.image before (Ok u) after
 ReadsRange s start before (Err f) after =
-    ((first_fit (off s ∷ []) ≡ Some f) × (after ≡ before))
+    (Refuses (off s ∷ []) f × (after ≡ before))
     ⊎ ((g : ImageFault) × (first_fit (off s ∷ []) ≡ None) × (f ≡ from_image g) × Reads start s.image before (Err g) after)
 
 -- The memory is lent as it is, bytes that are not committed too.
 abbrev pub Lends : State → Result (Bor (List ℕ)) StoreFault → Type 0
 Lends s (Ok memory) = (first_fit (off s ∷ []) ≡ None) × (memory.now ≡ s.image.memory)
-Lends s (Err f) = first_fit (off s ∷ []) ≡ Some f
+Lends s (Err f) = Refuses (off s ∷ []) f
 
 -- The transaction is over and the memory as at begin.
 abbrev pub Undone : State → State → Type 0
@@ -59,7 +59,7 @@ Undone s s' = Restored s.image s'.image × MadeOf s' s'.image s.spool s.log fals
 -- Abort puts back each declared byte as at begin.
 abbrev pub Aborts : State → ℕ → Result (Unit {0}) StoreFault → State → Type 0
 Aborts s number (Ok _) s' = (first_fit (token_rows s number) ≡ None) × Undone s s'
-Aborts s number (Err f) s' = (first_fit (token_rows s number) ≡ Some f) × (s' ≡ s)
+Aborts s number (Err f) s' = Refuses (token_rows s number) f × (s' ≡ s)
 
 -- The records are written in their order, and then there is a barrier.
 abbrev pub writing : State → List Item → List Act
@@ -91,7 +91,7 @@ Flushes s d (Ok k) s' e =
     × (((k ≡ 0) × (s' ≡ s) × (e ≡ d))
     ⊎ ((1 ≤ k) × Done d (writing s (spooled s)) e × Written s (spooled s) s.log.ordinal s' × (s'.image ≡ s.image) × (s'.busy ≡ s.busy)))
 Flushes s d (Err f) s' e =
-    ((first_fit (off s ∷ []) ≡ Some f) × (s' ≡ s) × (e ≡ d))
+    (Refuses (off s ∷ []) f × (s' ≡ s) × (e ≡ d))
     ⊎ ((first_fit (off s ∷ []) ≡ None) × (1 ≤ array_vec_len s.spool) × CutWriting s d (spooled s) f s' e)
 
 -- A commit with nothing declared ends the transaction, and answers the last ordinal and 0.
@@ -119,7 +119,7 @@ pub record CommitsParts (s : State) (d : Disk) (flush : Bool) (x : ℕ × ℕ) (
 -- A commit that is refused for want of serials, log or spool aborts.
 pub record CommitRefused (s : State) (d : Disk) (flush : Bool) (f : StoreFault) (s' : State) (e : Disk) : Type 0 where
   pub some : declared s.image ≢ []
-  pub refused : first_fit (commit_rows s (length (own s)) flush) ≡ Some f
+  pub refused : Refuses (commit_rows s (length (own s)) flush) f
   pub state : Undone s s'
   pub device : e ≡ d
 
@@ -134,5 +134,5 @@ abbrev pub Commits : State → Disk → ℕ → Bool → Result (ℕ × ℕ) Sto
 Commits s d number flush (Ok x) s' e =
     (first_fit (token_rows s number) ≡ None) × (CommitsNothing s d x s' e ⊎ CommitsParts s d flush x s' e)
 Commits s d number flush (Err f) s' e =
-    ((first_fit (token_rows s number) ≡ Some f) × (s' ≡ s) × (e ≡ d))
+    (Refuses (token_rows s number) f × (s' ≡ s) × (e ≡ d))
     ⊎ ((first_fit (token_rows s number) ≡ None) × (CommitRefused s d flush f s' e ⊎ CommitCut s d flush f s' e))

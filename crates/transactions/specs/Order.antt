@@ -9,7 +9,7 @@ use Rattle.transactions.specs.Truncation.{truncate_rows}
 -- The refusals of these rows have ascending numbers, all above this one.
 abbrev pub ascends : ℕ → List Row → Bool
 ascends above [] = true
-ascends above (row ∷ rows) = nat_lt above (number row.1) && ascends (number row.1) rows
+ascends above (row ∷ rows) = nat_lt above row.number && ascends row.number rows
 
 -- Each call tests its rows in ascending number. What the memory refuses, it refuses after all rows of a call that is
 -- shown a token, and of one that only reads.

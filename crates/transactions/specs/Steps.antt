@@ -1,15 +1,16 @@
 -- What the inner steps of the calls do.
-use Rattle.std.specs.Prelude.{◌≡◌, ℕ, Bool, false, ◌⊎◌, Some, None, Ok, Err, Option, Result}
+use Rattle.std.specs.Prelude.{◌≡◌, ℕ, Bool, false, ◌⊎◌, List, Some, None, Ok, Err, Option, Result}
 use Rattle.image.specs.Calls.{Kept}
 use Rattle.transactions.specs.declared.fault.StoreFault.{StoreFault}
 use Rattle.transactions.specs.declared.state.State.{State}
+use Rattle.transactions.specs.Fault.{number, values}
 use Rattle.device.specs.Disk.{Disk}
 use Rattle.transactions.specs.Calls.{CommitsParts, CommitRefused, CommitCut}
 
--- The tests pass just where no row fits, and else the first that fits answers.
-abbrev pub Passes : Option StoreFault → Result (Unit {0}) StoreFault → Type 0
+-- The tests pass just where no row fits, and else the refusal is that of the first that fits.
+abbrev pub Passes : Option (ℕ × List ℕ) → Result (Unit {0}) StoreFault → Type 0
 Passes fit (Ok _) = fit ≡ None
-Passes fit (Err f) = fit ≡ Some f
+Passes fit (Err f) = fit ≡ Some (number f, values f)
 
 -- The transaction is over and its bytes stay.
 pub record Over (s s' : State) : Type 0 where

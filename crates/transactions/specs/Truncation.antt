@@ -10,10 +10,10 @@ use Rattle.journal.specs.Pages.{names, covers, in_log, unsaid}
 use Rattle.durability.specs.Items.{Item, appending, recorded}
 use Rattle.durability.specs.Promises.{homing, marking}
 use Rattle.transactions.specs.declared.fault.StoreFault.{StoreFault}
-use Rattle.transactions.specs.declared.fault.StoreFault.TheVariants.{Device, Full}
+use Rattle.transactions.specs.declared.fault.StoreFault.TheVariants.{Device}
 use Rattle.transactions.specs.declared.state.State.{State}
 use Rattle.transactions.specs.Calls.{writing}
-use Rattle.transactions.specs.Rows.{Row, first_fit, off, busy, serials}
+use Rattle.transactions.specs.Rows.{Row, first_fit, Refuses, off, busy, serials}
 use Rattle.transactions.specs.State.{live, spooled, StandsAt, TurnedOff}
 
 -- One of these items says so of page p; serials do not matter here.
@@ -43,9 +43,10 @@ dirty_pages s shows = chosen (is_dirty s shows) 0 64
 abbrev pub due_pages : State → (ℕ → Shown) → List ℕ
 due_pages s shows = chosen (is_due s shows) 0 64
 
--- There is too little log for what waits, so many page records and a mark.
+-- There is too little log, by so many records, for what waits, so many page records and a mark.
 abbrev pub crowded : State → ℕ → Row
-crowded s due = (nat_lt s.log.places (live s + array_vec_len s.spool + due + 1), Full (live s + array_vec_len s.spool + due + 1 - s.log.places))
+crowded s due =
+    record { fits = nat_lt s.log.places (live s + array_vec_len s.spool + due + 1); number = 15; values = (live s + array_vec_len s.spool + due + 1 - s.log.places) ∷ [] }
 
 abbrev pub truncate_rows : State → ℕ → List Row
 truncate_rows s due = off s ∷ busy s ∷ serials s 0 ∷ crowded s due ∷ []
@@ -119,7 +120,7 @@ abbrev pub PagesAnswer : State → Disk → Result ℕ StoreFault → State → 
 PagesAnswer s d (Ok k) s' e =
     (first_fit (crowded s (length (due_pages s d.shows)) ∷ []) ≡ None) × (TruncatesNothing s d k s' e ⊎ TruncatesPages s d k s' e)
 PagesAnswer s d (Err f) s' e =
-    ((first_fit (crowded s (length (due_pages s d.shows)) ∷ []) ≡ Some f) × (s' ≡ s) × (e ≡ d))
+    (Refuses (crowded s (length (due_pages s d.shows)) ∷ []) f × (s' ≡ s) × (e ≡ d))
     ⊎ ((first_fit (crowded s (length (due_pages s d.shows)) ∷ []) ≡ None)
     × (o : ℕ) × (f ≡ Device (Power o)) × (dirty_pages s d.shows ≢ []) × CutShort d (truncation s d.shows) o e × TurnedOff s s')
 
@@ -128,4 +129,4 @@ abbrev pub Truncates : State → Disk → Result ℕ StoreFault → State → Di
 Truncates s d (Ok k) s' e =
     (first_fit (truncate_rows s (length (due_pages s d.shows))) ≡ None) × (TruncatesNothing s d k s' e ⊎ TruncatesPages s d k s' e)
 Truncates s d (Err f) s' e =
-    ((first_fit (truncate_rows s (length (due_pages s d.shows))) ≡ Some f) × (s' ≡ s) × (e ≡ d)) ⊎ TruncateCut s d f s' e
+    (Refuses (truncate_rows s (length (due_pages s d.shows))) f × (s' ≡ s) × (e ≡ d)) ⊎ TruncateCut s d f s' e

@@ -4,7 +4,7 @@ use Rattle.transactions.specs.Calls.{Enters}
 use Rattle.image.specs.Calls.{declared}
 use Rattle.image.specs.Cut.{cut_runs}
 use Rattle.transactions.specs.declared.state.State.{State}
-use Rattle.transactions.specs.Rows.{first_fit, commit_rows}
+use Rattle.transactions.specs.Rows.{first_fit, Refuses, commit_rows}
 use Rattle.transactions.specs.State as state
 use Rattle.transactions.proofs.Loops.{length_own}
 use Rattle.transactions.proofs.Plans.{roomy, some_records}
@@ -24,7 +24,7 @@ returns-in-Err g c =
       answer = inl
           record {
             some = c.requires.some;
-            refused = subst (λ (k : ℕ). first_fit (commit_rows s k c.args.flush) ≡ Some c.in-Err.fault) (counted s c.piece_count-records.result c.piece_count-records.ensures.count) c.in-Err.ensures;
+            refused = subst (λ (k : ℕ). Refuses (commit_rows s k c.args.flush) c.in-Err.fault) (counted s c.piece_count-records.result c.piece_count-records.ensures.count) c.in-Err.ensures;
             state = c.undo.ensures.undone;
             device = refl;
           };

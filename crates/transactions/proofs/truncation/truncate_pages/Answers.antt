@@ -3,7 +3,7 @@ use Rattle.std.proofs.Common.{◌≡◌, ℕ, List, [], ◌∷◌, length, Some,
 use Rattle.std.proofs.lemmas.Result.{err_from_is_err_and}
 use Rattle.device.specs.Trace.{Act, Done, Tries}
 use Rattle.transactions.specs.Pages.{members}
-use Rattle.transactions.specs.Rows.{first_fit}
+use Rattle.transactions.specs.Rows.{first_fit, Refuses}
 use Rattle.transactions.specs.Truncation.{crowded, Truncated}
 use Rattle.transactions.proofs.Sets.{members_few}
 use Rattle.transactions.proofs.Tabling.{off_stands, truncated_stands}
@@ -18,7 +18,7 @@ returns-in_err-has_log g c =
     let p = err_from_is_err_and c.from_residual.result c.from_residual.ensures.1 in
     rw (p.1, p.2)
     record {
-      answer = inl (subst (λ (n : ℕ). first_fit (crowded s n ∷ []) ≡ Some c.in_err-has_log.field-0.0) count c.in_err-has_log.ensures, refl, refl);
+      answer = inl (subst (λ (n : ℕ). Refuses (crowded s n ∷ []) c.in_err-has_log.field-0.0) count c.in_err-has_log.ensures, refl, refl);
       table = λ _. (c.requires.writable, c.requires.table);
     }
 
