@@ -1,12 +1,12 @@
 -- A memory that holds a book conserves what was issued, and its cells.
-use Rattle.std.proofs.Common.{◌≡◌, ℕ, zero, suc, ◌+◌, ◌-◌, ◌*◌, ◌/◌, ◌%◌, ◌^◌, ◌<◌, ◌≤◌, ◌⊎◌, List, [], ◌∷◌, length, get_or, take, drop, sum, refl, sym, ap, ◌∙◌, subst, inl, inr, ⊎_elim, pow-suc, arith}
+use Rattle.std.proofs.Common.{◌≡◌, ℕ, zero, suc, ◌+◌, ◌-◌, ◌*◌, ◌/◌, ◌%◌, ◌^◌, ◌<◌, ◌≤◌, List, [], ◌∷◌, length, get_or, take, sum, refl, sym, ap, ◌∙◌, subst, inl, inr, ⊎_elim, pow-suc, arith}
 use Rattle.std.proofs.Math.Seq.{drop-cons}
 use Rattle.std.proofs.lemmas.List.{drop_all, get_or_past}
 use Rattle.std.proofs.lemmas.Bool.{cases_lt}
 use Rattle.std.proofs.lemmas.Nat.{div_below}
 use Rattle.record.specs.Fields.{digits, value, field}
-use Rattle.book.specs.Layout.{byte_in, Stands, balance_at, sum_to, head_at, cell_at, Cell, InCells, first_of, Chain, Lies}
-use Rattle.book.specs.Book.{Book, Money, Chains, Holds, cells_of}
+use Rattle.book.specs.Layout.{byte_in, Stands, head_at, cell_at, Cell, InCells, first_of, Chain, Lies}
+use Rattle.book.specs.Book.{Book, Chains, Holds, cells_of}
 use Rattle.book.specs.Conserved.{IsHead, LeadsTo, MetOnce, Ends, Conserved}
 use Rattle.book.proofs.Places.{head_cases, head_low, head_high}
 use Rattle.book.proofs.Chaining.{chain_link, first_below, once}

@@ -2,7 +2,6 @@
 use Rattle.std.proofs.Common.{◌≡◌, ℕ, ◌+◌, ◌<◌, ◌≤◌, min, max, Bool, true, false, cond, ltb, ◌⊎◌, List, [], ◌∷◌, ◌++◌, length, get_or, Some, None, Ok, Err, Option, Result, sym, refl, ap, ◌∙◌, subst, inl, inr, arith}
 use Rattle.std.proofs.lemmas.Bool.{eq-eqb}
 use Rattle.journal.specs.Memory.{overlaid}
-use Rattle.device.specs.Disk.{Disk}
 use Rattle.image.specs.declared.run.Run.{Run}
 use Rattle.image.specs.declared.run.ImageFault.TheVariants.{Range, Runs as Too-many, Undeclared}
 use Rattle.image.specs.declared.state.Image.{Image}

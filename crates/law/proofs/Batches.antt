@@ -1,13 +1,12 @@
 -- The records of transactions one after another: what they make of the memory, and where a first part of them can end.
 use Rattle.std.proofs.Common.{◌≡◌, ℕ, zero, suc, ◌+◌, ◌*◌, ◌/◌, ◌%◌, ◌<◌, ◌≤◌, List, [], ◌∷◌, ◌++◌, length, take, drop, sym, refl, ap, ◌∙◌, subst, add-zero, div-add-mod', arith}
-use Rattle.std.proofs.lemmas.List.{append-nil, append_assoc, length-append, length-take, length-drop}
-use Rattle.record.specs.Good.{Fits}
+use Rattle.std.proofs.lemmas.List.{append-nil, append_assoc, length-append}
 use Rattle.journal.specs.Memory.{overlaid}
 use Rattle.durability.specs.Items.{Item, put_in, ordinal_after, kind_after, Appendable}
 use Rattle.durability.specs.Promises.{Split}
 use Rattle.image.specs.declared.run.Piece.{Piece}
-use Rattle.image.specs.Cut.{cut_runs, laid, FitsPage, AllPieces, PiecesLay, PiecesFit, PiecesNone}
-use Rattle.transactions.specs.Parts.{kind_before, parts}
+use Rattle.image.specs.Cut.{cut_runs, laid, PiecesLay, PiecesFit, PiecesNone}
+use Rattle.transactions.specs.Parts.{parts}
 use Rattle.transactions.proofs.Fitting.{appendable_append, appendable_parts}
 use Rattle.transactions.proofs.Loops.{length_parts}
 use Rattle.law.specs.Transactions.{Transaction, changed, applied_all, records_of, batch, Proper, AllProper}

@@ -1,5 +1,5 @@
 -- Records of pages that hold what the memory holds: they change no byte of it, and each is one that stands alone.
-use Rattle.std.proofs.Common.{◌≡◌, ℕ, zero, suc, ◌+◌, ◌-◌, ◌*◌, ◌<◌, ◌≤◌, Bool, true, false, cond, List, [], ◌∷◌, ◌++◌, map, length, get_or, take, drop, refl, ap, ◌∙◌, inl, inr, ⊎_elim, arith}
+use Rattle.std.proofs.Common.{◌≡◌, ℕ, ◌+◌, ◌-◌, ◌*◌, ◌<◌, ◌≤◌, List, [], ◌∷◌, ◌++◌, map, length, get_or, take, drop, refl, ap, ◌∙◌, inl, inr, ⊎_elim, arith}
 use Rattle.std.proofs.lemmas.Bool.{cases_lt}
 use Rattle.std.proofs.lemmas.List.{length-take, length-drop, get_or-take, get_or-drop}
 use Rattle.device.specs.Disk.{Among}
@@ -7,7 +7,7 @@ use Rattle.record.specs.Good.{Fits}
 use Rattle.journal.specs.Memory.{overlaid}
 use Rattle.journal.proofs.Overlay.{overlaid_below, overlaid_within, overlaid_above}
 use Rattle.durability.specs.Items.{Item, put_in, ordinal_after, kind_after, Appendable}
-use Rattle.transactions.specs.Truncation.{chosen, page_item}
+use Rattle.transactions.specs.Truncation.{page_item}
 
 -- Each of these is a page.
 abbrev pub Inside : List ℕ → Type 0

@@ -29,9 +29,9 @@ use Rattle.transactions.specs.Truncation.{dirty_pages, due_pages, crowded, cover
 use Rattle.law.specs.Transactions.{Transaction, made_of, batch}
 use Rattle.law.specs.Events.{fits_none, does_truncate, truncate_plan}
 use Rattle.law.proofs.History.{History, Resting, Safe, Sound, settles, with_barrier, AllCounted}
-use Rattle.law.proofs.Openings.{short_plate, safe_failed}
+use Rattle.law.proofs.Openings.{short_plate}
 use Rattle.law.proofs.Committing.{all_kept, none_spooled, empty_kept, flush_cut}
-use Rattle.law.proofs.Cuts.{CutAt, Traced, failed_off, cut_off, short_at, CutLater, cut_parts, none_made, done_on, settles_all, settles_left, cut_settles}
+use Rattle.law.proofs.Cuts.{CutAt, Traced, cut_off, short_at, CutLater, cut_parts, none_made, done_on, settles_all, settles_left, cut_settles}
 use Rattle.law.proofs.Standing.{rests, safe, same_stands, on_stands, off_stands, awake}
 use Rattle.law.proofs.Covering.{end_of}
 use Rattle.law.proofs.Truncating.{Clear, clear, Flushed, flushed, covered, cover_cut, at_home, home_short, recovers, memory_is, firm_as}

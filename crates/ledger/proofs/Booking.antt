@@ -1,12 +1,10 @@
 -- A call that changes the book, by what was planned and what was made of it.
-use Rattle.std.proofs.Common.{◌≡◌, ℕ, Bool, true, List, [], None, Ok, Err, Result, sym, refl, ap, subst, inl, inr}
+use Rattle.std.proofs.Common.{◌≡◌, ℕ, Bool, true, List, None, Ok, Err, Result, sym, refl, ap, subst, inr}
 use mathlib.Core.Logic.{∥∥₁_map}
-use Rattle.image.specs.Calls.{declared}
 use Rattle.transactions.specs.declared.fault.StoreFault.{StoreFault}
 use Rattle.transactions.specs.declared.state.State.{State}
 use Rattle.transactions.specs.Held as store
 use Rattle.book.specs.declared.fault.LedgerFault.{LedgerFault}
-use Rattle.book.specs.declared.fault.LedgerFault.TheVariants.{Store}
 use Rattle.book.specs.Layout.{byte_in}
 use Rattle.book.specs.Book.{Book, Holds}
 use Rattle.book.specs.Rows.{first_fit, collect_rows}

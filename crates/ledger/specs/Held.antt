@@ -1,5 +1,4 @@
 -- A ledger together with its device.
-use Rattle.std.specs.Prelude.{Bool}
 use Rattle.device.specs.declared.Device.{Ghosts}
 use Rattle.transactions.specs.Held as store
 use Rattle.ledger.specs.declared.ledger.Ledger.{Ledger}

@@ -1,5 +1,5 @@
 -- How a ledger stands with its store, and what its memory holds.
-use Rattle.std.specs.Prelude.{◌≡◌, Bool, true, false, ◌&&◌, List, []}
+use Rattle.std.specs.Prelude.{◌≡◌, Bool, true, false, ◌&&◌, []}
 use Rattle.image.specs.Calls.{declared}
 use Rattle.transactions.specs.declared.state.State.{State}
 use Rattle.transactions.specs.Held as store

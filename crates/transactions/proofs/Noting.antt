@@ -1,5 +1,5 @@
 -- What the page table has once records are noted.
-use Rattle.std.proofs.Common.{◌≡◌, ℕ, ◌/◌, Bool, true, false, cond, eqb, leb, ltb, List, [], ◌∷◌, ◌++◌, length, sym, refl, ap, ◌∙◌}
+use Rattle.std.proofs.Common.{◌≡◌, ℕ, ◌/◌, Bool, true, false, cond, eqb, leb, ltb, List, [], ◌∷◌, length, sym, refl, ap, ◌∙◌}
 use Rattle.journal.specs.declared.pages.PageTable.{PageTable}
 use Rattle.journal.specs.Pages.{names, covers, named_in, covered_in, Agree, Told, Noted}
 use Rattle.record.specs.Entry.{Entry}

@@ -1,5 +1,5 @@
 -- The head and then the cells are put in.
-use Rattle.std.proofs.Common.{◌≡◌, ℕ, ◌≤◌, [], ◌∷◌, refl, ◌∙◌, ap, arith}
+use Rattle.std.proofs.Common.{◌≡◌, ℕ, [], ◌∷◌, refl, ◌∙◌, ap, arith}
 use Rattle.book.specs.Edits.{Edit, edit, free_chain, make_edits}
 use Rattle.book.specs.Layout.{head_at, cell_at}
 use Rattle.record.specs.Fields.{digits}

@@ -1,5 +1,5 @@
 -- One balance and then the other are put in.
-use Rattle.std.proofs.Common.{ℕ, ◌≤◌, [], ◌∷◌, ◌∙◌, ap, arith}
+use Rattle.std.proofs.Common.{ℕ, [], ◌∷◌, ◌∙◌, ap, arith}
 use Rattle.record.specs.Fields.{digits}
 use Rattle.book.specs.Layout.{balance_at}
 use Rattle.book.specs.Edits.{Edit, edit}

@@ -1,7 +1,6 @@
 -- The total and then the balance are put in.
-use Rattle.std.proofs.Common.{ℕ, ◌≤◌, [], ◌∷◌, ◌∙◌, ap, arith}
+use Rattle.std.proofs.Common.{ℕ, [], ◌∷◌, ap, arith}
 use Rattle.record.specs.Fields.{digits}
-use Rattle.book.specs.Layout.{balance_at}
 use Rattle.book.specs.Edits.{Edit, edit}
 use Rattle.transactions.specs.Held.{held}
 use Rattle.changes.proofs.Patches.{puts_then}

@@ -1,5 +1,5 @@
 -- The balances and then the entry are put in.
-use Rattle.std.proofs.Common.{ℕ, ◌≤◌, [], ◌∷◌, refl, arith}
+use Rattle.std.proofs.Common.{[], ◌∷◌, refl, arith}
 use Rattle.record.specs.Fields.{digits}
 use Rattle.book.specs.Layout.{balance_at}
 use Rattle.book.specs.Edits.{edit}

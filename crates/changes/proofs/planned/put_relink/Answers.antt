@@ -1,5 +1,5 @@
 -- The index, the cell and the head of the free chain are put in.
-use Rattle.std.proofs.Common.{ℕ, ◌≤◌, ◌+◌, [], ◌∷◌, Ok, refl, ap, arith}
+use Rattle.std.proofs.Common.{ℕ, [], ◌∷◌, Ok, refl, ap, arith}
 use Rattle.record.specs.Fields.{digits}
 use Rattle.book.specs.Layout.{cell_at, cell, whole}
 use Rattle.book.specs.Edits.{Edit, edit}

@@ -1,5 +1,5 @@
 -- The bytes of the cell are put in.
-use Rattle.std.proofs.Common.{ℕ, List, [], ◌∷◌, ◌∙◌, ap, subst}
+use Rattle.std.proofs.Common.{ℕ, [], ◌∷◌, ◌∙◌, ap, subst}
 use Rattle.book.specs.Edits.{Edit, edit}
 use Rattle.book.specs.Layout.{cell_at}
 use Rattle.transactions.specs.Held.{held}

@@ -1,5 +1,5 @@
 -- Each turn notes one piece more.
-use Rattle.std.proofs.Common.{ℕ, ◌/◌, eqb, List, ◌∷◌, Option, sym, subst}
+use Rattle.std.proofs.Common.{ℕ, eqb, List, Option, sym, subst}
 use Rattle.std.specs.Iterator.{YieldsFirst}
 use Rattle.journal.specs.Pages.{Told}
 use Rattle.image.specs.declared.run.Piece.{Piece}
