@@ -18,8 +18,8 @@ use owners::owners;
 use transactions::MEMORY;
 use zeros::zeros_stand;
 
-// Whether the memory holds a ledger: the zeros of its layout, money that adds up, and cells that each lie on one
-// chain and have what that chain may have.
+/// Whether the memory holds a ledger: the zeros of its layout, money that adds up, and cells that each lie on one
+/// chain and have what that chain may have.
 pub fn is_ledger(memory: &[u8; MEMORY]) -> bool
     ensures { Judged (byte_in memory.now) result }
 {

@@ -67,7 +67,7 @@ abbrev pub move_rows : Book → ℕ → ℕ → ℕ → List Row
 move_rows b payer payee amount =
     no_account payer ∷ no_account payee ∷ same payer payee ∷ nothing payer amount ∷ short b payer amount ∷ no_cell b payer ∷ []
 
--- A visit is a move of 1 from the tag's account to the guard's.
+-- The tag's account pays the guard's 1.
 abbrev pub paying_rows : Book → Option ℕ → List ℕ → ℕ → List Row
 paying_rows b None id guard = unknown None id ∷ []
 paying_rows b (Some payer) id guard = same payer guard ∷ short b payer 1 ∷ no_cell b payer ∷ []

@@ -40,7 +40,7 @@ impl From<StoreFault> for LedgerFault {
 }
 
 impl LedgerFault {
-    // The number of this refusal in the table of refusals: a store's keeps its own.
+    /// The number of this refusal in the table of refusals: a store's keeps its own.
     pub fn number(&self) -> u8
         ensures { result ≡ number self.now }
     {

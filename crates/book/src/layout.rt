@@ -5,23 +5,23 @@ ghost use Rattle.book.specs.Records.{bucket_of};
 ghost use Rattle.book.specs.Book.{IsAccount};
 ghost use Rattle.book.specs.Heads.{IsChain, chain_number};
 
-// How many accounts, buckets and cells there are.
+/// How many accounts, buckets and cells there are.
 pub const ACCOUNTS: u16 = 64;
 
 pub const BUCKETS: u16 = 16;
 
 pub const CELLS: u16 = 200;
 
-// The number of bytes of a cell.
+/// The number of bytes of a cell.
 pub const CELL: usize = 24;
 
-// Where the total stands that was issued.
+/// Where the total stands that was issued.
 pub const TOTAL: usize = 0;
 
-// The total stays below this, where the sign of a 64-bit number would begin.
+/// The total stays below this, where the sign of a 64-bit number would begin.
 pub const TOTALS: u64 = 0x8000_0000_0000_0000;
 
-// The free cells, the entries of an account, the tags of a bucket.
+/// The free cells, the entries of an account, the tags of a bucket.
 #[derive(Clone, Copy, PartialEq, Eq, Debug)]
 pub enum Chain {
     Free,
@@ -30,7 +30,7 @@ pub enum Chain {
 }
 
 impl Chain {
-    // Where the index of its first cell stands.
+    /// Where the index of its first cell stands.
     pub fn head(self) -> usize
         ensures { IsChain self → result ≡ head_at (chain_number self) }
     {
@@ -42,28 +42,28 @@ impl Chain {
     }
 }
 
-// Where an account has its balance.
+/// Where an account has its balance.
 pub fn balance_at(account: u16) -> usize
     ensures { result ≡ balance_at account }
 {
     16 * account as usize
 }
 
-// Where a cell stands.
+/// Where a cell stands.
 pub fn cell_at(number: u16) -> usize
     ensures { result ≡ cell_at number }
 {
     1048 + CELL * number as usize
 }
 
-// Whether there is an account of this number.
+/// Whether there is an account of this number.
 pub fn is_account(number: u16) -> bool
     ensures { IsTrue result ↔ IsAccount number }
 {
     (1..=ACCOUNTS).contains(&number)
 }
 
-// The bucket that a tag belongs to.
+/// The bucket that a tag belongs to.
 pub fn bucket_of(id: &[u8; 8]) -> u16
     ensures { result ≡ bucket_of id.now }
 {

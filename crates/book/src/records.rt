@@ -4,11 +4,11 @@ ghost use Rattle.record.specs.Fields.{digits};
 ghost use Rattle.book.specs.Records.{ReadAs, laid, Parted, tag_kind, tag_content, TagFits, entry_kind, entry_content, EntryFits};
 ghost use Rattle.book.specs.Laws.{tag_long, tag_same, entry_long, entry_same};
 
-// The number of bytes of a record in its cell.
+/// The number of bytes of a record in its cell.
 pub const CONTENT: usize = 20;
 
-// A kind of record that a cell may hold: the byte that tells the kind, and the bytes of its content, from which the
-// same record is read.
+/// A kind of record that a cell may hold: the byte that tells the kind, and the bytes of its content, from which the
+/// same record is read.
 pub trait CellRecord: Sized {
     const KIND: u8;
 
@@ -30,14 +30,14 @@ pub trait CellRecord: Sized {
     ghost same: { (x y : Self) → fits x → fits y → content x ≡ content y → x ≡ y };
 }
 
-// A tag, and the account whose visits it spends.
+/// A tag, and the account whose visits it spends.
 #[derive(Clone, Copy, PartialEq, Eq, Debug)]
 pub struct Tag {
     pub id: [u8; 8],
     pub account: u16,
 }
 
-// Who was paid how much by the account that has the entry.
+/// Who was paid how much by the account that has the entry.
 #[derive(Clone, Copy, PartialEq, Eq, Debug)]
 pub struct Entry {
     pub amount: u64,

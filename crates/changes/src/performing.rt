@@ -57,8 +57,8 @@ fn transact<D: Device>(
     finish(store, token, put, flush)
 }
 
-// Makes a planned change by one transaction: its bytes are declared, put in and committed. They lie in the memory, in
-// less runs than there is room for, so the store refuses none of them.
+/// Makes a planned change by one transaction: its bytes are declared, put in and committed. They lie in the memory, in
+/// less runs than there is room for, so the store refuses none of them.
 pub fn perform<D: Device>(
     store: &mut Store<D>,
     plan: &Plan,
@@ -69,7 +69,7 @@ pub fn perform<D: Device>(
     transact(store, Work::Plan(plan), flush)
 }
 
-// Links the cells of a new ledger by one transaction, with flush.
+/// Links the cells of a new ledger by one transaction, with flush.
 pub fn link_cells<D: Device>(store: &mut Store<D>) -> Result<(u64, usize), StoreFault>
     ensures { Performs make_edits true (held store.old) result (held store.new) }
 {

@@ -4,7 +4,7 @@
 
 ghost use Rattle.edges.specs.Worked.{WorkedEdges};
 
-// Names the theorem that the worked edges follow from what the calls promise.
+/// Names the theorem that the worked edges follow from what the calls promise.
 pub fn worked_edges()
     ensures { WorkedEdges }
 {}

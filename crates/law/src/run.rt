@@ -10,7 +10,7 @@ use crate::script::{Answer, Call};
 use device::Device;
 use transactions::{Store, Token};
 
-// A run between two calls: a store works on its device, or the device lies alone.
+/// A run between two calls: a store works on its device, or the device lies alone.
 pub enum Run<D: Device> {
     Working(Store<D>),
     Closed(D),
@@ -97,10 +97,10 @@ fn end<D: Device>(run: Run<D>) -> D
     }
 }
 
-// Works a script over a device, as far as there is room for answers, and answers how many calls that were. The script
-// lends places for tokens, with whatever tokens in them, and finds in them afterwards what it did not spend; and a
-// buffer, into whose parts it reads. The device is given back, closed. Whatever happens in a run, this one or any other,
-// the crash-safety law of stores holds of it.
+/// Works a script over a device, as far as there is room for answers, and answers how many calls that were. The script
+/// lends places for tokens, with whatever tokens in them, and finds in them afterwards what it did not spend; and a
+/// buffer, into whose parts it reads. The device is given back, closed. Whatever happens in a run, this one or any other,
+/// the crash-safety law of stores holds of it.
 pub fn work<D: Device>(
     device: D,
     calls: &[Call],

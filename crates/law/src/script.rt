@@ -1,7 +1,7 @@
 // Scripts: the calls that a run makes, and what they answer.
 use transactions::StoreFault;
 
-// A call of a script. A token is named by its place among those that the script lends.
+/// A call of a script. A token is named by its place among those that the script lends.
 #[derive(Clone, Copy)]
 pub enum Call<'a> {
     // These two need a device that lies alone, the others a store that works on one.
@@ -41,7 +41,7 @@ pub enum Call<'a> {
     Truncate,
 }
 
-// What a call answers.
+/// What a call answers.
 #[derive(Clone, Copy)]
 pub enum Answer {
     // It did not fit where the run stood, and was not made: no store works, or one does already; there is no such place,

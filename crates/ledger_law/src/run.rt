@@ -9,7 +9,7 @@ use crate::script::{Answer, Call};
 use device::Device;
 use ledger::Ledger;
 
-// A run between two calls: a ledger works on its device, or the device lies alone.
+/// A run between two calls: a ledger works on its device, or the device lies alone.
 pub enum Run<D: Device> {
     Working(Ledger<D>),
     Closed(D),

@@ -1,7 +1,7 @@
 // Scripts of a ledger: the calls that a run makes, and what they answer.
 use book::{Entry, LedgerFault};
 
-// A call of a script.
+/// A call of a script.
 #[derive(Clone, Copy)]
 pub enum Call {
     // These two need a device that lies alone, the others a ledger that works on one.
@@ -49,7 +49,7 @@ pub enum Call {
     Truncate,
 }
 
-// What a call answers.
+/// What a call answers.
 #[derive(Clone, Copy)]
 pub enum Answer {
     // It did not fit where the run stood, and was not made: no ledger works, or one does already.

@@ -8,17 +8,17 @@ use crate::script::{Answer, Call};
 use device::Device;
 use transactions::Token;
 
-// A script of the store's calls, or of the ledger's.
+/// A script of the store's calls, or of the ledger's.
 #[derive(Clone, Copy)]
 pub enum Script<'a> {
     Store(&'a [law::Call<'a>]),
     Ledger(&'a [Call]),
 }
 
-// Works a script over a device, as far as there is room for its answers, and answers how many calls that were. The
-// device is given back, closed. What a script of the other kind would have used stays as it is: a store's script lends
-// places for tokens and a buffer. Whatever happens in a run, this one or any other, the crash-safety law of stores and
-// the conservation law of ledgers hold of it, and what a ledger does below is a run of a store.
+/// Works a script over a device, as far as there is room for its answers, and answers how many calls that were. The
+/// device is given back, closed. What a script of the other kind would have used stays as it is: a store's script lends
+/// places for tokens and a buffer. Whatever happens in a run, this one or any other, the crash-safety law of stores and
+/// the conservation law of ledgers hold of it, and what a ledger does below is a run of a store.
 pub fn work<D: Device>(
     device: D,
     script: Script,

@@ -13,7 +13,7 @@ use crate::reading::{amount as amount_in, balance};
 use book::{LedgerFault, TOTAL};
 use image::MEMORY;
 
-// The balance of an account.
+/// The balance of an account.
 pub fn balance_of(memory: &[u8; MEMORY], account: u16) -> Result<u64, LedgerFault>
     ensures { Told (balance_rows account) (byte_in memory.now) (λ b. b.balances account) result }
 {
@@ -21,7 +21,7 @@ pub fn balance_of(memory: &[u8; MEMORY], account: u16) -> Result<u64, LedgerFaul
     Ok(balance(memory, account))
 }
 
-// Issuing: more in an account, and in the total.
+/// Issuing: more in an account, and in the total.
 pub fn plan_issue(memory: &[u8; MEMORY], account: u16, amount: u64) -> Result<Plan, LedgerFault>
     ensures { (b : Book) → Holds (byte_in memory.now) b → Planned (issue_rows b account amount) (issue_edits b account amount) result }
 {

@@ -20,7 +20,7 @@ use crate::walking::{front_entry, front_free};
 use book::{Chain, Entry, LedgerFault, bucket_of};
 use image::MEMORY;
 
-// Moving: one account pays another, and an entry goes to the front of the payer's.
+/// Moving: one account pays another, and an entry goes to the front of the payer's.
 pub fn plan_move(
     memory: &[u8; MEMORY],
     payer: u16,
@@ -34,7 +34,7 @@ pub fn plan_move(
     pay(memory, payer, payee, amount)
 }
 
-// A visit: a tag's account pays 1 to the guard's.
+/// A visit: a tag's account pays 1 to the guard's.
 pub fn plan_visit(memory: &[u8; MEMORY], id: &[u8; 8], guard: u16) -> Result<Plan, LedgerFault>
     ensures { (b : Book) → Holds (byte_in memory.now) b → Planned (visit_rows b id.now guard) (visit_edits b id.now guard) result }
 {
@@ -86,7 +86,7 @@ fn moving(
     })
 }
 
-// Collecting: the front entry of an account is taken out.
+/// Collecting: the front entry of an account is taken out.
 pub fn plan_collect(memory: &[u8; MEMORY], account: u16) -> Result<(Plan, Entry), LedgerFault>
     ensures { (b : Book) → Holds (byte_in memory.now) b → Collected (collect_rows b account) (collect_edits b account) (front_of (b.entries account)) result }
 {

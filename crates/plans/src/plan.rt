@@ -4,7 +4,7 @@ ghost use Rattle.std.specs.Prelude.{◌+◌, ◌≤◌};
 
 use book::CONTENT;
 
-// More in an account, and in the total: what they have then.
+/// More in an account, and in the total: what they have then.
 #[derive(Clone, Copy)]
 pub struct Issue {
     pub total: u64,
@@ -13,7 +13,7 @@ pub struct Issue {
     pub ghost known: { account ≤ 64 },
 }
 
-// A cell changes its chain: it comes from the free ones, or goes to them.
+/// A cell changes its chain: it comes from the free ones, or goes to them.
 #[derive(Clone, Copy)]
 pub struct Relink {
     // Where the index stands by which the other chain is changed, and the cell to which it leads then.
@@ -30,7 +30,7 @@ pub struct Relink {
     pub ghost inside: { number ≤ 200 },
 }
 
-// What the payer has left, what the payee has then, and the entry of it.
+/// What the payer has left, what the payee has then, and the entry of it.
 #[derive(Clone, Copy)]
 pub struct Payment {
     pub payer: u16,
@@ -42,7 +42,7 @@ pub struct Payment {
     pub ghost paid: { payee ≤ 64 },
 }
 
-// What a change puts into the memory.
+/// What a change puts into the memory.
 #[derive(Clone, Copy)]
 pub enum Plan {
     Issue(Issue),

@@ -17,7 +17,7 @@ use crate::walking::{front_free, seek_tag};
 use book::{Chain, LedgerFault, Tag, bucket_of};
 use image::MEMORY;
 
-// The account of a tag, if the tag is there.
+/// The account of a tag, if the tag is there.
 pub fn find_tag(memory: &[u8; MEMORY], id: &[u8; 8]) -> Option<u16>
     ensures { (b : Book) → Holds (byte_in memory.now) b → result ≡ account_of b id.now }
 {
@@ -35,7 +35,7 @@ fn check_new(memory: &[u8; MEMORY], id: &[u8; 8]) -> Result<(), LedgerFault>
     }
 }
 
-// Enrolling: a tag goes to the front of its bucket.
+/// Enrolling: a tag goes to the front of its bucket.
 pub fn plan_enrol(memory: &[u8; MEMORY], id: &[u8; 8], account: u16) -> Result<Plan, LedgerFault>
     ensures { (b : Book) → Holds (byte_in memory.now) b → Planned (enrol_rows b id.now account) (enrol_edits b id.now account) result }
 {
@@ -54,7 +54,7 @@ fn enrolling(memory: &[u8; MEMORY], cell: &FreeCell, id: &[u8; 8], account: u16)
     Plan::Relink(inserted(memory, cell, chain, &tag))
 }
 
-// Dropping: a tag is taken out of its bucket.
+/// Dropping: a tag is taken out of its bucket.
 pub fn plan_drop(memory: &[u8; MEMORY], id: &[u8; 8]) -> Result<Plan, LedgerFault>
     ensures { (b : Book) → Holds (byte_in memory.now) b → Planned (drop_rows b id.now) (drop_edits b id.now) result }
 {

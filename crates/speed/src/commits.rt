@@ -9,7 +9,7 @@ use transactions::{Store, StoreFault, Token};
 // How many places are drawn before the first transaction.
 const PLACES: usize = 65_536;
 
-// Declares the word at `place`, and writes it.
+/// Declares the word at `place`, and writes it.
 pub fn fill<D: Device>(
     store: &mut Store<D>,
     token: &Token,
@@ -21,7 +21,7 @@ pub fn fill<D: Device>(
     store.write(token, place, &bytes)
 }
 
-// Commits what was filled in; where that was refused, the transaction is aborted.
+/// Commits what was filled in; where that was refused, the transaction is aborted.
 pub fn finish<D: Device>(
     store: &mut Store<D>,
     token: Token,
@@ -36,7 +36,7 @@ pub fn finish<D: Device>(
     Ok(())
 }
 
-// One transaction of one word.
+/// One transaction of one word.
 pub fn put<D: Device>(
     store: &mut Store<D>,
     place: usize,

@@ -3,7 +3,7 @@ ghost use Rattle.std.specs.Prelude.{◌≡◌};
 
 use device::{Device, DeviceFault};
 
-// How many calls passed, of each kind that touches a sector or settles.
+/// How many calls passed, of each kind that touches a sector or settles.
 #[derive(Clone, Copy)]
 pub struct Counts {
     pub reads: u64,
@@ -11,7 +11,7 @@ pub struct Counts {
     pub barriers: u64,
 }
 
-// A device that is as the one below, and counts. The counts wrap, which no run comes to.
+/// A device that is as the one below, and counts. The counts wrap, which no run comes to.
 #[derive(Drop)]
 pub struct Counted<D> {
     device: D,

@@ -39,7 +39,7 @@ impl fmt::Display for Workload {
 }
 
 impl Workload {
-    // How many sectors the card has: the log's, and 64 homes.
+    /// How many sectors the card has: the log's, and 64 homes.
     pub fn sectors(&self) -> usize {
         match self {
             Workload::Openings { places, .. } => places.saturating_add(64),
@@ -47,7 +47,7 @@ impl Workload {
         }
     }
 
-    // Does it so often.
+    /// Does it so often.
     pub fn work<D: Device + Drop>(
         self,
         heap: Global,
@@ -65,7 +65,7 @@ impl Workload {
     }
 }
 
-// A workload, and how often it is done.
+/// A workload, and how often it is done.
 #[derive(Clone, Copy)]
 pub struct Task {
     pub workload: Workload,
@@ -82,7 +82,7 @@ fn number(words: &[String], index: usize) -> anyhow::Result<usize> {
 }
 
 impl Task {
-    // A task as the command line names it: the name, the count, and the numbers of the workload.
+    /// A task as the command line names it: the name, the count, and the numbers of the workload.
     pub fn parse(words: &[String]) -> anyhow::Result<Task> {
         let Some(name) = words.first() else {
             bail!("no workload is named");

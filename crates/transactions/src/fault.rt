@@ -91,7 +91,7 @@ fn two(first: u64, second: u64) -> ArrayVec<u64, 2>
 }
 
 impl StoreFault {
-    // The number of this refusal in the table of refusals, which is promised beside the enum and made of it alone.
+    /// The number of this refusal in the table of refusals, which is promised beside the enum and made of it alone.
     pub fn number(&self) -> u8
         ensures { result ≡ number self.now }
     {
@@ -112,7 +112,7 @@ impl StoreFault {
         }
     }
 
-    // The values that this refusal returns, in their order: at most a sector and an origin.
+    /// The values that this refusal returns, in their order: at most a sector and an origin.
     pub fn values(&self) -> ArrayVec<u64, 2>
         ensures { result.items ≡ values self.now }
     {

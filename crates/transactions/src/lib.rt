@@ -30,8 +30,8 @@ pub use state::State;
 pub use store::Store;
 pub use token::Token;
 
-// Names the theorem that a page is among the dirty ones just where a record that is live or waits names it, and among
-// the due ones where none covers it too; each is there once, the lowest first.
+/// Names the theorem that a page is among the dirty ones just where a record that is live or waits names it, and among
+/// the due ones where none covers it too; each is there once, the lowest first.
 pub fn pages_are_by_rule()
     ensures { PagesByRule }
 {}

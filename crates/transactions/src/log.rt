@@ -3,7 +3,7 @@ ghost use Rattle.std.specs.Prelude.{◌≤◌};
 
 use record::Head;
 
-// A number of sectors with its bounds: what writes a record or notes one is public, and takes any number.
+/// A number of sectors with its bounds: what writes a record or notes one is public, and takes any number.
 #[derive(Clone, Copy)]
 pub struct Log {
     // How many sectors the log has.

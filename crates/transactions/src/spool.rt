@@ -5,7 +5,7 @@ ghost use Rattle.arrayvec.specs.ArrayVec.{array_vec_len};
 use arrayvec::ArrayVec;
 use image::PAGE;
 
-// A part of a transaction, with its bytes as they were at commit. It gets its serial and low when it is written.
+/// A part of a transaction, with its bytes as they were at commit. It gets its serial and low when it is written.
 #[derive(Drop)]
 pub struct Spooled {
     pub ordinal: u64,
@@ -31,8 +31,8 @@ impl Default for Spooled {
     }
 }
 
-// How many parts the spool holds.
+/// How many parts the spool holds.
 pub const SPOOL: usize = 32;
 
-// The parts that wait, the oldest first.
+/// The parts that wait, the oldest first.
 pub type Spool = ArrayVec<Spooled, SPOOL>;

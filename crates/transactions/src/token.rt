@@ -2,8 +2,8 @@
 ghost use Rattle.transactions.specs.declared.token.Token.{Token};
 ghost use Rattle.std.specs.Prelude.{◌≡◌};
 
-// It has the number of the transaction that it was given for, by which alone it fits. It may not be let go,
-// having no `Drop`: a program that forgets one on any way out is refused.
+/// It has the number of the transaction that it was given for, by which alone it fits. It may not be let go,
+/// having no `Drop`: a program that forgets one on any way out is refused.
 pub struct Token {
     number: u64,
 }
