@@ -1,0 +1,3 @@
+-- Runs that the laws speak of.
+pub mod Store
+pub mod Ledger
