@@ -5,3 +5,4 @@ pub mod Room
 pub mod Gaps
 pub mod Samples
 pub mod Books
+pub mod Fifteen

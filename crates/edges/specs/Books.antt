@@ -1,5 +1,5 @@
 -- A tag's bucket, and a balance that is just enough.
-use Rattle.std.specs.Prelude.{◌≡◌, ℕ, Bool, true, ◌≢◌, List, [], ◌∷◌, Some, None, Err, Result}
+use Rattle.std.specs.Prelude.{◌≡◌, ℕ, ◌+◌, Bool, true, ◌≢◌, List, [], ◌∷◌, Some, None, Ok, Err, Result}
 use Rattle.transactions.specs.declared.fault.StoreFault.{StoreFault}
 use Rattle.book.specs.declared.fault.LedgerFault.{LedgerFault}
 use Rattle.book.specs.declared.fault.LedgerFault.TheVariants.{Store, Unknown, Short}
@@ -33,6 +33,18 @@ abbrev pub TwentyPass : Type 0
 TwentyPass =
     (h k : Held) (b : Book) (payer payee : ℕ) (flush : Bool) (r : Result ℕ LedgerFault) → Twenty h b payer payee
     → Moves payer payee 20 flush h r k → (f : LedgerFault) → r ≡ Err f → (g : StoreFault) × (f ≡ Store g)
+
+-- There is such a ledger.
+abbrev pub TwentyStand : Type 0
+TwentyStand = (h : Held) × (b : Book) × (payer : ℕ) × (payee : ℕ) × Twenty h b payer payee
+
+-- Once 20 are paid the payer has none, and the payee 20 more.
+abbrev pub TwentyPaid : Type 0
+TwentyPaid =
+    (h k : Held) (b : Book) (payer payee : ℕ) (flush : Bool) (ordinal : ℕ) → Twenty h b payer payee
+    → Moves payer payee 20 flush h (Ok ordinal) k
+    → (b' : Book) × HoldsBook k.store.state b' × (b'.balances payer ≡ 0)
+    × (b'.balances payee ≡ b.balances payee + 20)
 
 -- Paying 21 is refused by row 23, which tells the balance, and nothing moves.
 pub record TwentyOneShort : Type 0 where

@@ -1,5 +1,5 @@
 -- A log of 160 places in which 80 records live.
-use Rattle.std.specs.Prelude.{◌≡◌, ℕ, ◌+◌, ◌^◌, ◌<◌, Bool, length, None, Ok, Err, Result}
+use Rattle.std.specs.Prelude.{◌≡◌, ℕ, ◌+◌, ◌^◌, ◌<◌, Bool, false, length, None, Ok, Err, Result}
 use Rattle.arrayvec.specs.ArrayVec.{array_vec_len}
 use Rattle.device.specs.Disk.{Disk}
 use Rattle.transactions.specs.declared.fault.StoreFault.{StoreFault}
@@ -38,3 +38,18 @@ pub record ThenFull : Type 0 where
       → Eighty s → length (own s) ≡ 15 → Commits s d token flush (Ok x) s' e
       → OneMore t s' next → Commits t d' next again r t' e'
       → (r ≡ Err (Full 1)) × Undone t t' × (e' ≡ d')
+
+-- There is such a store: its commit of 15 records is made without flush, and then one of one record is refused.
+pub record FifteenThenOne : Type 0 where
+  pub disk : Disk
+  pub before : State
+  pub token : ℕ
+  pub eighty : Eighty before
+  pub fifteen : length (own before) ≡ 15
+  pub after : State
+  pub commits : Commits before disk token false (Ok (1, 15)) after disk
+  pub again : State
+  pub next : ℕ
+  pub one : OneMore again after next
+  pub undone : State
+  pub refused : Commits again disk next false (Err (Full 1)) undone disk

@@ -25,3 +25,8 @@ pub record TakesSize (count places : ℕ) : Type 0 where
   pub opens : (d e : Disk) (x : ℕ × ℕ) (s : State) → d.plate.sectors ≡ count → Opened d (Ok x) e s → s.log.places ≡ places
   pub format_fits : (d e : Disk) (f : StoreFault) (s : State) → d.plate.sectors ≡ count → Formatted d (Err f) e s → number f ≢ 5
   pub opening_fits : (d e : Disk) (f : StoreFault) (s : State) → d.plate.sectors ≡ count → Opened d (Err f) e s → number f ≢ 5
+
+-- There is a format of so many sectors that succeeds.
+abbrev pub FormatsSize : ℕ → Type 0
+FormatsSize count =
+    (d : Disk) × (e : Disk) × (s : State) × (d.plate.sectors ≡ count) × Formatted d (Ok tt) e s

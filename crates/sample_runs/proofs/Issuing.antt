@@ -184,7 +184,7 @@ issue_changes =
       commits = commits;
     }
 
-leaves : (b : Book) → HoldsBook linked b → HoldsBook issued (issued_to 1 20 b)
+pub leaves : (b : Book) → HoldsBook linked b → HoldsBook issued (issued_to 1 20 b)
 leaves b h =
     let f = byte_in linked.image.memory in
     holds_after linked issued edits (issued_to 1 20 b)
