@@ -1,6 +1,6 @@
 #!/usr/bin/env bash
 # Counts the instructions of each workload of crate `speed`, beside those of the same workloads in C, and prints a table.
-# Needs valgrind, gcc, objdump and python3. Counts repeat from run to run on one machine with one kit.
+# Needs valgrind, gcc, objdump and python3. On one machine with one kit counts repeat to a few tenths of a percent.
 set -euo pipefail
 cd "$(dirname "$0")/.."
 work=$(mktemp -d)
