@@ -1,4 +1,5 @@
 -- The lemmas behind the cache.
+mod Rings
 mod Slots
 mod Overlay
 mod Calls

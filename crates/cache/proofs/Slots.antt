@@ -1,9 +1,9 @@
 -- Lists of held sectors: one looked for from the end, and each of a sector given new bytes.
-use Rattle.std.proofs.Common.{◌≡◌, ℕ, ◌+◌, ◌<◌, Bool, true, false, cond, eqb, List, [], ◌∷◌, ◌++◌, map, length, get_or, take, drop, set, reverse, Some, None, Ok, Err, Option, inl, inr, sym, refl, ap, ◌∙◌}
+use Rattle.std.proofs.Common.{◌≡◌, ℕ, ◌+◌, ◌<◌, ◌≤◌, Bool, true, false, cond, ◌==◌, eqb, List, [], ◌∷◌, ◌++◌, map, length, get_or, take, drop, set, reverse, Some, None, Ok, Err, Option, inl, inr, sym, refl, ap, ◌∙◌, subst}
 use Rattle.std.specs.List.{find}
 use Rattle.std.specs.Option.{option_map, option_or}
 use Rattle.std.proofs.lemmas.Bool.{eq-eqb, ne_eqb, cases_eq}
-use Rattle.std.proofs.lemmas.List.{reverse-append, get_or_default}
+use Rattle.std.proofs.lemmas.List.{append-nil, drop_all, get_or_default, reverse-append, take_all}
 use Rattle.std.proofs.lemmas.List.Folds.{find-append}
 use Rattle.std.proofs.lemmas.List.Edits.{map_over_more}
 use Rattle.device.specs.declared.fault.DeviceFault.TheVariants.{Power, Misaddressed, Unfit, Spoiled}
@@ -37,6 +37,21 @@ kept-cons s l ls =
     ∙ later_or (find (λ k. eqb k.sector s) (l ∷ [])) (find (λ k. eqb k.sector s) (reverse ls))
     ∙ ap (λ x. later x (kept s ls)) (one s l)
 
+-- the last of the slots that is of this sector
+abbrev pub last_of : ℕ → List Slot → Option Slot
+last_of s ls = find (λ l. l.sector == s) (reverse ls)
+
+pub last_of-append : (s : ℕ) (xs ys : List Slot) → last_of s (xs ++ ys) ≡ option_or (last_of s ys) (last_of s xs)
+last_of-append s xs ys =
+    ap (find (λ l. l.sector == s)) (reverse-append xs ys) ∙ find-append (λ l. l.sector == s) (reverse ys) (reverse xs)
+
+pub or_found : {X Y : Type 0} (f : X → Y) (x : Option X) (y z : Option Y) → option_map f x ≡ y → (x ≡ None → ⊥) → option_map f x ≡ option_or y z
+or_found f (Some a) y z e some = subst (λ w. Some (f a) ≡ option_or w z) e refl
+or_found f None y z e some = absurd (some refl)
+
+pub or_next : {X Y : Type 0} (f : X → Y) (x : Option X) (y z : Option Y) → option_map f x ≡ y → x ≡ None → option_or y z ≡ z
+or_next f x y z e none = ap (λ w. option_or w z) (sym e ∙ ap (option_map f) none)
+
 -- a slot of the sector gets its bytes
 abbrev pub renewed : Slot → Slot → Slot
 renewed x l = cond (eqb x.sector l.sector) x l
@@ -59,6 +74,10 @@ renew_this x xs ys i d lx ly e same = renew_more x xs ys i d x lx ly e (renewed_
 pub renew_other : (x : Slot) (xs ys : List Slot) (i : ℕ) (d : Slot) → i < length xs → i < length ys → ys ≡ map (renewed x) (take i xs) ++ drop i xs
     → ((get_or ys i d).sector ≡ x.sector → ⊥) → set ys i (get_or ys i d) ≡ map (renewed x) (take (i + 1) xs) ++ drop (i + 1) xs
 renew_other x xs ys i d lx ly e other = renew_more x xs ys i d (get_or ys i d) lx ly e (renewed_other x (get_or ys i d) other)
+
+-- all are
+pub renew_all : (x : Slot) (xs ys : List Slot) (i : ℕ) → length xs ≤ i → ys ≡ map (renewed x) (take i xs) ++ drop i xs → ys ≡ map (renewed x) xs
+renew_all x xs ys i h e = e ∙ rw (take_all i xs h, drop_all i xs h) (append-nil (map (renewed x) xs))
 
 -- held sectors stay sectors of the disk
 pub fits_still : (d e : Disk) (ls : List Slot) → e.plate ≡ d.plate → Fits d ls → Fits e ls

@@ -15,7 +15,7 @@ pub record State : Type 0 where
 
 -- The state of a cache.
 abbrev pub state : {D : Type 0} {d : Ghosts D} → Cache D d → State
-state {d = d} c = record { below = d.disk c.below; held = c.held.items; on = c.power.on; told = c.power.told }
+state {d = d} c = record { below = d.disk c.below; held = c.held; on = c.power.on; told = c.power.told }
 
 -- A disk with a held sector laid over it: the sector shows the held bytes, and spoiled or what may
 -- stand below may stand there too, since the bytes are yet to be written.

@@ -1,11 +1,11 @@
 // The sectors that a cache holds.
-ghost use Rattle.std.specs.Prelude.{◌≡◌, ◌==◌, length, reverse};
+ghost use Rattle.std.specs.Prelude.{◌≡◌, ◌<◌, ◌≤◌, ◌==◌, [], ◌∷◌, ◌++◌, length, drop, reverse};
 ghost use Rattle.std.specs.List.{find};
 ghost use Rattle.std.specs.Option.{option_map};
-ghost use Rattle.cache.specs.Held.{slot, kept, rewritten};
+ghost use Rattle.cache.specs.Held.{slot, rewritten};
 
-use arrayvec::ArrayVec;
 use device::SECTOR;
+use std::marker::Model;
 
 // How many sectors a cache holds at most.
 pub const SLOTS: usize = 8;
@@ -32,21 +32,146 @@ impl Slot {
     }
 }
 
-// The slot of this sector, if it is held. It is looked for from the end, where a later write would be.
-pub(crate) fn find(held: &[Slot], sector: usize) -> Option<&Slot>
-    ensures { option_map (λ l. l.now) result ≡ find (λ l. l.sector == sector) (reverse held.now) }
+// The last of the slots that is of this sector.
+#[inline]
+fn find_last(slots: &[Slot], sector: usize) -> Option<&Slot>
+    ensures { option_map (λ l. l.now) result ≡ find (λ l. l.sector == sector) (reverse slots.now) }
 {
-    held.iter().rev().find(|slot| slot.sector == sector)
+    slots.iter().rev().find(|slot| slot.sector == sector)
 }
 
-// Gives the sector its new bytes in its old turn. A loop, since after an adapter of a writing iterator nothing is
-// known of what it wrote.
-pub(crate) fn rewrite(held: &mut ArrayVec<Slot, SLOTS>, new: Slot)
-    ensures { held.new.items ≡ rewritten new.sector new.bytes held.old.items }
-{
-    for slot in held.as_mut_slice() {
-        if slot.sector == new.sector {
-            *slot = new;
+// A ring of slots: `count` of them are in use, from `first` on, round the end. So the longest held sector is let go
+// without a move of the others, which a vector's `remove` makes.
+#[derive(Drop)]
+pub struct Held {
+    slots: [Slot; SLOTS],
+    first: usize,
+    count: usize,
+}
+
+// A clause sees the slots in use, the longest held first.
+impl Model for Held {
+    ghost use Rattle.std.specs.Prelude.{◌≡◌, ◌<◌, ◌≤◌, List, length, take};
+    ghost use Rattle.cache.specs.declared.held.Slot.{Slot};
+    ghost use Rattle.cache.specs.Ring.{ring};
+
+    ghost Value = { List Slot };
+
+    ghost view = { λ h. take h.count (ring h.first h.slots) };
+
+    ghost invariant = { λ h. (length h.slots ≡ 8) × (h.first < 8) × (h.count ≤ 8) };
+}
+
+impl Held {
+    pub(crate) fn new() -> Self
+        ensures { result ≡ [] }
+    {
+        Held {
+            slots: [Slot {
+                sector: 0,
+                bytes: [0; SECTOR],
+            }; SLOTS],
+            first: 0,
+            count: 0,
         }
+    }
+
+    #[inline]
+    pub(crate) fn len(&self) -> usize
+        ensures { result ≡ length self.now }
+    {
+        self.count
+    }
+
+    #[inline]
+    pub(crate) fn is_empty(&self) -> bool
+        ensures { result ≡ (length self.now == 0) }
+    {
+        self.count == 0
+    }
+
+    #[inline]
+    pub(crate) fn is_full(&self) -> bool
+        ensures full { result ≡ (length self.now == 8) }
+        ensures few { length self.now ≤ 8 }
+    {
+        self.count == SLOTS
+    }
+
+    // The slot of this sector, if it is held. It is looked for from the end, where a later write would be.
+    #[inline]
+    pub(crate) fn find(&self, sector: usize) -> Option<&Slot>
+        ensures { option_map (λ l. l.now) result ≡ find (λ l. l.sector == sector) (reverse self.now) }
+    {
+        let end = self.first + self.count;
+        if end <= SLOTS {
+            return find_last(&self.slots[self.first..end], sector);
+        }
+        self.find_round(sector)
+    }
+
+    // The same where the slots in use go round the end: those in front were taken in later. Kept out of line, so that
+    // the other way is short.
+    #[inline(never)]
+    fn find_round(&self, sector: usize) -> Option<&Slot>
+        ensures { option_map (λ l. l.now) result ≡ find (λ l. l.sector == sector) (reverse self.now) }
+    {
+        let end = self.first + self.count;
+        if end <= SLOTS {
+            return find_last(&self.slots[self.first..end], sector);
+        }
+        match find_last(&self.slots[..end - SLOTS], sector) {
+            None => find_last(&self.slots[self.first..], sector),
+            found => found,
+        }
+    }
+
+    // Gives the sector its new bytes in its old turn. A slot out of use may change too, unseen.
+    #[inline]
+    pub(crate) fn rewrite(&mut self, new: Slot)
+        ensures { self.new ≡ rewritten new.sector new.bytes self.old }
+    {
+        for slot in &mut self.slots {
+            if slot.sector == new.sector {
+                *slot = new;
+            }
+        }
+    }
+
+    // Takes a sector in at the end.
+    #[inline]
+    pub(crate) fn push(&mut self, slot: Slot)
+        requires { length self.old < 8 }
+        ensures { self.new ≡ self.old ++ slot ∷ [] }
+    {
+        self.slots[(self.first + self.count) % SLOTS] = slot;
+        self.count += 1;
+    }
+
+    // The slot of the longest held sector.
+    #[inline]
+    pub(crate) fn oldest(&self) -> &Slot
+        requires { 0 < length self.now }
+        ensures { self.now ≡ result.now ∷ drop 1 self.now }
+    {
+        &self.slots[self.first]
+    }
+
+    // Lets the longest held sector go.
+    #[inline]
+    pub(crate) fn drop_oldest(&mut self)
+        requires { 0 < length self.old }
+        ensures { self.new ≡ drop 1 self.old }
+    {
+        self.first = (self.first + 1) % SLOTS;
+        self.count -= 1;
+    }
+
+    // Lets every held sector go.
+    #[inline]
+    pub(crate) fn clear(&mut self)
+        ensures { self.new ≡ [] }
+    {
+        self.count = 0;
     }
 }

@@ -3,13 +3,12 @@
 #![tactic(auto, using(crate::proofs::Slots::fits_wrote, crate::proofs::Slots::fits_read, crate::proofs::Slots::fits_rest, crate::proofs::Calls::restarts))]
 
 ghost use Rattle.cache.specs.Held.{Fits, Fits-prop};
-ghost use Rattle.std.specs.Prelude.{◌≡◌, ◌<◌, true, false, [], length};
+ghost use Rattle.std.specs.Prelude.{◌≡◌, ◌<◌, true, false, [], length, OnOk};
 
 mod held;
 
-use arrayvec::ArrayVec;
 use device::{Device, DeviceFault, Power};
-use held::{SLOTS, Slot};
+use held::{Held, Slot};
 
 // The origin that a layer tells where it refuses a call itself, or is off.
 const ORIGIN: u8 = 0;
@@ -19,9 +18,9 @@ const ORIGIN: u8 = 0;
 #[derive(Drop)]
 pub struct Cache<D: Device> {
     below: D,
-    held: ArrayVec<Slot, SLOTS>,
+    held: Held,
     power: Power,
-    pub ghost sound: { Fits (D.Device.disk below) held.items } by { Fits-prop (D.Device.disk below) held.items },
+    pub ghost sound: { Fits (D.Device.disk below) held } by { Fits-prop (D.Device.disk below) held },
 }
 
 impl<D: Device> Cache<D> {
@@ -34,32 +33,33 @@ impl<D: Device> Cache<D> {
     // A cache over this device that is on and holds nothing.
     pub fn new(below: D) -> Self
         ensures below { result.below ≡ below }
-        ensures held { result.held.items ≡ [] }
+        ensures held { result.held ≡ [] }
         ensures on { result.power.on ≡ true }
         ensures told { result.power.told ≡ 0 }
     {
         Cache {
             below,
-            held: ArrayVec::new(),
+            held: Held::new(),
             power: Power::new(),
         }
     }
 
     // Sends the longest held sector down; it stays held where power fails.
     fn send_one(&mut self) -> Result<(), DeviceFault>
-        requires { 0 < length self.old.held.items }
+        requires { 0 < length self.old.held }
         ensures { SendsOne (state self.old) result (state self.new) }
     {
-        let oldest = &self.held[0];
+        let oldest = self.held.oldest();
         self.power
             .hand_up(self.below.write(oldest.sector, &oldest.bytes))?;
-        self.held.remove(0);
+        self.held.drop_oldest();
         Ok(())
     }
 
     // Sends the longest held sector down where there is no room for one more.
     fn make_room(&mut self) -> Result<(), DeviceFault>
-        ensures { MakesRoom (state self.old) result (state self.new) }
+        ensures makes { MakesRoom (state self.old) result (state self.new) }
+        ensures room { OnOk result (length self.new.held < 8) }
     {
         if self.held.is_full() {
             self.send_one()?;
@@ -70,7 +70,7 @@ impl<D: Device> Cache<D> {
     // Reads a sector that is not held.
     fn read_below(&mut self, sector: usize, buffer: &mut [u8]) -> Result<(), DeviceFault>
         requires asked { Asked (state self.old) sector (length buffer.old) }
-        requires absent { is_held sector self.old.held.items ≡ false }
+        requires absent { is_held sector self.old.held ≡ false }
         ensures meaning { Read (disk_of (state self.old)) sector buffer.old result (disk_of (state self.new)) buffer.new }
         ensures exact { Reads (state self.old) sector buffer.old result (state self.new) buffer.new }
     {
@@ -110,7 +110,7 @@ impl<D: Device> Device for Cache<D> {
         ensures exact { Reads (state self.old) sector buffer.old result (state self.new) buffer.new }
     {
         device::admit(self.power.on, self.sectors(), ORIGIN, sector, buffer.len())?;
-        if let Some(slot) = held::find(self.held.as_slice(), sector) {
+        if let Some(slot) = self.held.find(sector) {
             buffer.copy_from_slice(&slot.bytes);
             return Ok(());
         }
@@ -123,8 +123,8 @@ impl<D: Device> Device for Cache<D> {
     {
         device::admit(self.power.on, self.sectors(), ORIGIN, sector, bytes.len())?;
         let slot = Slot::new(sector, bytes);
-        if held::find(self.held.as_slice(), sector).is_some() {
-            held::rewrite(&mut self.held, slot);
+        if self.held.find(sector).is_some() {
+            self.held.rewrite(slot);
             return Ok(());
         }
         self.make_room()?;

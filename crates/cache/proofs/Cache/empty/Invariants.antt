@@ -9,4 +9,4 @@ abbrev pub invariant-loop-self : goal.invariant-loop-self
 invariant-loop-self g l = Sent (state l.initial.self) (state l.self)
 
 abbrev pub decreases-loop-self : goal.decreases-loop-self
-decreases-loop-self g l = length l.self.held.items
+decreases-loop-self g l = length l.self.held

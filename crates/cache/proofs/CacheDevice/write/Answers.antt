@@ -19,11 +19,11 @@ invariant_of-self g c =
 pub returns-then-is_some : goal.returns-then-is_some
 returns-then-is_some g c =
     let s = state c.args.self.now in
-    let t = made s.below c.rewrite.new.held.items c.args.self.now.power in
+    let t = made s.below c.rewrite.new.self c.args.self.now.power in
     let b = c.args.bytes.now in
     let a = asked s _ c.args.sector (length b) c.sectors.ensures.exact c.in_ok-admit.ensures in
     let found : is_held c.args.sector s.held ≡ true = search rules in
-    let turns : c.rewrite.new.held.items ≡ rewritten c.args.sector b s.held = c.rewrite.ensures ∙ ap (λ (x : Slot). rewritten x.sector x.bytes s.held) c.new-slot.ensures in
+    let turns : c.rewrite.new.self ≡ rewritten c.args.sector b s.held = c.rewrite.ensures ∙ ap (λ (x : Slot). rewritten x.sector x.bytes s.held) c.new-slot.ensures in
     let w : Rewrote s c.args.sector b t = record { asked = a; found = found; below = refl; turns = turns; on = a.on; told = refl } in
     record { meaning = rewrote s t c.args.sector b w; exact = inl w }
 
@@ -33,7 +33,7 @@ returns-in_err-make_room g c =
     let b = c.args.bytes.now in
     let a = asked s _ c.args.sector (length b) c.sectors.ensures.exact c.in_ok-admit.ensures in
     let absent : is_held c.args.sector s.held ≡ false = search rules in
-    let both = not_pushed s (state c.make_room.new.self) c.args.sector b c.in_err-make_room.field-0.0 a absent c.in_err-make_room.ensures in
+    let both = not_pushed s (state c.make_room.new.self) c.args.sector b c.in_err-make_room.field-0.0 a absent c.in_err-make_room.ensures.makes in
     let p = err_from_is_err_and c.from_residual-in_err-make_room.result c.from_residual-in_err-make_room.ensures.1 in
     rw (p.1, p.2) (record { meaning = both.0; exact = both.1 })
 
@@ -43,8 +43,8 @@ invariant_of-self-2 g c =
     let m = state c.make_room.new.self in
     let b = c.args.bytes.now in
     let a = asked s _ c.args.sector (length b) c.sectors.ensures.exact c.in_ok-admit.ensures in
-    let there = still_addressed s.below m.below c.args.sector (length b) (room_plate s m c.in_ok-make_room.ensures) a.addressed in
-    record { sound = rw (c.push.ensures.items, c.new-slot.ensures) (fits_push m.below m.held (slot c.args.sector b) there c.make_room.new.self.sound) }
+    let there = still_addressed s.below m.below c.args.sector (length b) (room_plate s m c.in_ok-make_room.ensures.makes) a.addressed in
+    record { sound = rw (c.push.ensures, c.new-slot.ensures) (fits_push m.below m.held (slot c.args.sector b) there c.make_room.new.self.sound) }
 
 pub returns : goal.returns
 returns g c =
@@ -53,6 +53,6 @@ returns g c =
     let b = c.args.bytes.now in
     let a = asked s _ c.args.sector (length b) c.sectors.ensures.exact c.in_ok-admit.ensures in
     let absent : is_held c.args.sector s.held ≡ false = search rules in
-    let e : c.push.new.self.items ≡ m.held ++ slot c.args.sector b ∷ [] = c.push.ensures.items ∙ ap (λ l. m.held ++ l ∷ []) c.new-slot.ensures in
-    let both = pushed s m c.args.sector b c.push.new.self.items a absent c.in_ok-make_room.ensures e in
+    let e : c.push.new.self ≡ m.held ++ slot c.args.sector b ∷ [] = c.push.ensures ∙ ap (λ l. m.held ++ l ∷ []) c.new-slot.ensures in
+    let both = pushed s m c.args.sector b c.push.new.self a absent c.in_ok-make_room.ensures.makes e in
     record { meaning = both.0; exact = both.1 }

@@ -1,7 +1,7 @@
--- The loop that goes over the held sectors.
+-- The loop that goes over the slots.
 use Rattle.std.proofs.Common.{◌≡◌, ◌++◌, map, take, drop}
 use Rattle.cache.proofs.Slots.{renewed}
-use Rattle.cache.proofs.held.rewrite.Given as goal
+use Rattle.cache.proofs.held.Held.rewrite.Given as goal
 
 -- the first of them are gone through
 abbrev pub invariant-loop-slot : goal.invariant-loop-slot
