@@ -1,5 +1,5 @@
 -- A store in which 80 records live, and whose transaction becomes 15.
-use Rattle.std.proofs.Common.{◌≡◌, ℕ, ◌+◌, ◌≤◌, Bool, true, false, ◌≢◌, List, [], ◌∷◌, length, Ok, Err, refl, ap, inl, inr, arith}
+use Rattle.std.proofs.Common.{◌≡◌, ℕ, ◌+◌, ◌≤◌, Bool, true, false, ◌≢◌, List, [], ◌∷◌, length, replicate, Ok, Err, refl, ap, inl, inr, arith}
 use Rattle.image.specs.declared.run.Run.{Run}
 use Rattle.image.specs.declared.runs.Runs.{Runs}
 use Rattle.image.specs.Calls.{declared}
@@ -29,7 +29,7 @@ before = state_of (image_of zeros zeros_long fifteen_runs) no_spool 1 80 0 (omeg
 
 abbrev part : (offset : ℕ) (last : Bool) → offset + 1 ≤ 96 → Spooled
 part offset last within =
-    record { ordinal = 1; page = 0; offset = offset; last = last; bytes = record { items = 0 ∷ [] }; paged = omega arith; some = omega arith; within = within }
+    record { ordinal = 1; page = 0; offset = offset; size = 1; last = last; bytes = 0 ∷ replicate 95 0; paged = omega arith; some = omega arith; within = within; sized = refl }
 
 abbrev fifteen_parts : Spool
 fifteen_parts =

@@ -1,7 +1,7 @@
 -- An issue that waits, and a truncation that power cuts as it begins.
-use Rattle.std.proofs.Common.{◌≡◌, ℕ, ◌+◌, ◌%◌, ◌≤◌, Bool, true, false, cond, ◌≢◌, List, [], ◌∷◌, length, take, drop, None, Ok, Err, sym, refl, ap, ◌∙◌, subst, inl, inr, arith}
+use Rattle.std.proofs.Common.{◌≡◌, ℕ, ◌+◌, ◌%◌, ◌≤◌, Bool, true, false, cond, ◌≢◌, List, [], ◌∷◌, ◌++◌, length, take, drop, replicate, None, Ok, Err, sym, refl, ap, ◌∙◌, subst, inl, inr, arith, length-append}
 use Rattle.std.proofs.lemmas.Bool.{le-ltb}
-use Rattle.std.proofs.lemmas.List.{length-take, length-drop}
+use Rattle.std.proofs.lemmas.List.{length-take, length-drop, take-append-le, take_all}
 use Rattle.device.specs.declared.fault.DeviceFault.TheVariants.{Power}
 use Rattle.device.specs.Disk.{Disk, Shown, Among}
 use Rattle.record.specs.Entry.{laid_out}
@@ -13,7 +13,7 @@ use Rattle.image.specs.Cut.{cut, cut_runs}
 use Rattle.image.specs.Runs.{run}
 use Rattle.transactions.specs.declared.fault.StoreFault.TheVariants.{Device}
 use Rattle.transactions.specs.declared.state.State.{State}
-use Rattle.transactions.specs.Parts.{Spool, parts}
+use Rattle.transactions.specs.Parts.{Spool, parts, waiting}
 use Rattle.transactions.specs.Held.{Held, Begins, Commits, Truncates}
 use Rattle.transactions.specs.Rows as store
 use Rattle.transactions.specs.State.{own}
@@ -119,6 +119,21 @@ eight offset low =
     let whole = to_issue.image.whole in
     simp (length-take, length-drop) (omega (arith, whole, low))
 
+-- those bytes, and zeros after them
+abbrev pub padded : ℕ → List ℕ
+padded offset = take 8 (drop offset to_issue.image.memory) ++ replicate 88 0
+
+pub padded_long : (offset : ℕ) → offset ≤ 16 → length (padded offset) ≡ 96
+padded_long offset low =
+    length-append (take 8 (drop offset to_issue.image.memory)) (replicate 88 0)
+    ∙ ap (λ (n : ℕ). n + length (replicate {A = ℕ} 88 0)) (eight offset low)
+
+pub padded_front : (offset : ℕ) → offset ≤ 16 → take 8 (padded offset) ≡ take 8 (drop offset to_issue.image.memory)
+padded_front offset low =
+    let long = eight offset low in
+    take-append-le 8 (take 8 (drop offset to_issue.image.memory)) (replicate 88 0) (omega (arith, long))
+    ∙ take_all 8 (take 8 (drop offset to_issue.image.memory)) (omega (arith, long))
+
 abbrev pub in_spool : Spool
 in_spool =
     record {
@@ -127,24 +142,37 @@ in_spool =
             ordinal = 2;
             page = 0;
             offset = 0;
+            size = 8;
             last = false;
-            bytes = record { items = take 8 (drop 0 to_issue.image.memory) };
+            bytes = padded 0;
             paged = omega arith;
-            some = omega (arith, eight 0 (omega arith));
-            within = omega (arith, eight 0 (omega arith));
+            some = omega arith;
+            within = omega arith;
+            sized = padded_long 0 (omega arith);
           }
           ∷ record {
             ordinal = 2;
             page = 0;
             offset = 16;
+            size = 8;
             last = true;
-            bytes = record { items = take 8 (drop 16 to_issue.image.memory) };
+            bytes = padded 16;
             paged = omega arith;
-            some = omega (arith, eight 16 (omega arith));
-            within = omega (arith, eight 16 (omega arith));
+            some = omega arith;
+            within = omega arith;
+            sized = padded_long 16 (omega arith);
           }
           ∷ [];
     }
+
+-- the first of them
+abbrev waits_first : Item
+waits_first = record { kind = 1; ordinal = 2; page = 0; offset = 0; bytes = take 8 (padded 0) }
+
+wait_two : waiting in_spool ≡ part 1 0 ∷ part 2 16 ∷ []
+wait_two =
+    ap (λ (bytes : List ℕ). record { kind = 1; ordinal = 2; page = 0; offset = 0; bytes = bytes } ∷ record { kind = 2; ordinal = 2; page = 0; offset = 16; bytes = take 8 (padded 16) } ∷ []) (padded_front 0 (omega arith))
+    ∙ ap (λ (bytes : List ℕ). part 1 0 ∷ record { kind = 2; ordinal = 2; page = 0; offset = 16; bytes = bytes } ∷ []) (padded_front 16 (omega arith))
 
 abbrev pub issued : State
 issued = state_of (image_of to_issue.image.memory to_issue.image.whole no_runs) in_spool 1 53 2 (omega arith) (omega arith) false true
@@ -165,7 +193,7 @@ commits = (
         answer = ap (λ (k : ℕ). (2, k)) (sym two);
         enters = (
           refl,
-          record { log = record { places_is = refl; low_is = refl; last_is = refl; ordinal_is = refl }; waits = sym own_two; on = refl },
+          record { log = record { places_is = refl; low_is = refl; last_is = refl; ordinal_is = refl }; waits = wait_two ∙ sym own_two; on = refl },
         );
         image = record { memory = refl; before = refl; clean = refl };
         free = refl;
@@ -229,6 +257,6 @@ truncates =
       some = some_dirty links.disk.shows;
       origin = 0;
       fault = refl;
-      cut = inl (inr (torn links.disk (54 % 160) (laid_out (recorded 1 54 (part 1 0))) links.willing.on));
+      cut = inl (inr (torn links.disk (54 % 160) (laid_out (recorded 1 54 waits_first)) links.willing.on));
       state = record { off = refl; image = refl; spool = refl; log = refl; pages = refl; busy = refl };
     })

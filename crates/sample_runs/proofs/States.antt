@@ -54,7 +54,7 @@ abbrev pub one_part : Spool
 one_part =
     record {
       items =
-          record { ordinal = 2; page = 0; offset = 0; last = true; bytes = record { items = 0 ∷ [] }; paged = omega arith; some = omega arith; within = omega arith }
+          record { ordinal = 2; page = 0; offset = 0; size = 1; last = true; bytes = 0 ∷ replicate 95 0; paged = omega arith; some = omega arith; within = omega arith; sized = refl }
           ∷ [];
     }
 

@@ -23,7 +23,7 @@ parts ordinal memory (p ∷ ps) = part ordinal memory (kind_before ps) p ∷ par
 -- What a spooled part stands for.
 abbrev pub item_of : Spooled → Item
 item_of x =
-    record { kind = cond x.last 2 1; ordinal = x.ordinal; page = x.page; offset = x.offset; bytes = x.bytes.items }
+    record { kind = cond x.last 2 1; ordinal = x.ordinal; page = x.page; offset = x.offset; bytes = take x.size x.bytes }
 
 -- The spool, and the records that it stands for.
 abbrev pub Spool : Type 0

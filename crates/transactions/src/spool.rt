@@ -1,21 +1,24 @@
 // Records that wait to be written.
-ghost use Rattle.std.specs.Prelude.{◌+◌, ◌<◌, ◌≤◌};
-ghost use Rattle.arrayvec.specs.ArrayVec.{array_vec_len};
+ghost use Rattle.std.specs.Prelude.{◌≡◌, ◌+◌, ◌<◌, ◌≤◌, length};
 
 use arrayvec::ArrayVec;
 use image::PAGE;
 
 /// A part of a transaction, with its bytes as they were at commit. It gets its serial and low when it is written.
-#[derive(Drop)]
+// Its bytes are an array with a number beside it: a vector of fixed room is no `Copy`, and a part is.
+#[derive(Clone, Copy)]
 pub struct Spooled {
     pub ordinal: u64,
     pub page: u16,
     pub offset: u16,
+    /// How many of the bytes are the part's; what follows them means nothing.
+    pub size: u16,
     pub last: bool,
-    pub bytes: ArrayVec<u8, PAGE>,
+    pub bytes: [u8; PAGE],
     ghost paged: { page < 64 },
-    ghost some: { 1 ≤ array_vec_len bytes },
-    ghost within: { offset + array_vec_len bytes ≤ 96 },
+    ghost some: { 1 ≤ size },
+    ghost within: { offset + size ≤ 96 },
+    ghost sized: { length bytes ≡ 96 },
 }
 
 // What stands where no part was put yet. By hand: a derive would make a part without bytes.
@@ -25,8 +28,9 @@ impl Default for Spooled {
             ordinal: 0,
             page: 0,
             offset: 0,
+            size: 1,
             last: false,
-            bytes: ArrayVec::from([0; PAGE]),
+            bytes: [0; PAGE],
         }
     }
 }

@@ -6,7 +6,6 @@ ghost use Rattle.image.specs.Cut.{FitsPage, cut_runs};
 ghost use Rattle.transactions.specs.Parts.{part, parts, item_of, waiting};
 
 use crate::spool::{Spool, Spooled};
-use arrayvec::ArrayVec;
 use image::{Image, MEMORY, PAGE, Piece};
 
 // The parts of what is declared join what waits, in their order.
@@ -24,13 +23,15 @@ pub(crate) fn take_in(spool: &mut Spool, ordinal: u64, image: &Image)
     }
 }
 
-// So many bytes from `start` on.
-fn copied(memory: &[u8; MEMORY], start: usize, size: usize) -> ArrayVec<u8, PAGE>
+// So many bytes from `start` on, and zeros after them.
+fn copied(memory: &[u8; MEMORY], start: usize, size: usize) -> [u8; PAGE]
     requires few { size ≤ 96 }
     requires inside { start + size ≤ 6144 }
-    ensures { result.items ≡ take size (drop start memory.now) }
+    ensures { take size result ≡ take size (drop start memory.now) }
 {
-    ArrayVec::try_from(&memory[start..start + size]).unwrap()
+    let mut bytes = [0; PAGE];
+    bytes[..size].copy_from_slice(&memory[start..start + size]);
+    bytes
 }
 
 // A piece of the memory as a part that waits, with a copy of its bytes.
@@ -42,6 +43,7 @@ fn spooled(ordinal: u64, memory: &[u8; MEMORY], piece: &Piece, last: bool) -> Sp
         ordinal,
         page: piece.page() as u16,
         offset: piece.offset() as u16,
+        size: piece.size as u16,
         last,
         bytes: copied(memory, piece.start, piece.size),
     }

@@ -32,7 +32,7 @@ fn write_spooled<D: Device>(
         page: item.page,
         offset: item.offset,
         last: item.last,
-        bytes: &item.bytes,
+        bytes: &item.bytes[..item.size as usize],
     };
     write_record(device, log.places, &record)
 }
