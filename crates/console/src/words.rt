@@ -10,14 +10,15 @@ use std::str::FromStr;
 pub enum LineFault {
     // It says nothing that the console knows, or its words don't parse.
     Bad,
-    OutOfMemory,
+    // Memory ran out while it was read.
+    OutOfMemory(AllocError),
 }
 
 impl fmt::Display for LineFault {
     fn fmt<W: fmt::Write>(&self, f: &mut fmt::Formatter<W>) -> fmt::Result {
         match self {
             LineFault::Bad => f.write_str("bad line"),
-            LineFault::OutOfMemory => f.write_str("out of memory"),
+            LineFault::OutOfMemory(fault) => write!(f, "{fault}"),
         }
     }
 }
@@ -25,15 +26,15 @@ impl fmt::Display for LineFault {
 impl Error for LineFault {}
 
 impl From<AllocError> for LineFault {
-    fn from(_fault: AllocError) -> Self {
-        LineFault::OutOfMemory
+    fn from(fault: AllocError) -> Self {
+        LineFault::OutOfMemory(fault)
     }
 }
 
 impl From<FromHexError> for LineFault {
     fn from(fault: FromHexError) -> Self {
         match fault {
-            FromHexError::OutOfMemory => LineFault::OutOfMemory,
+            FromHexError::OutOfMemory => LineFault::OutOfMemory(AllocError),
             _ => LineFault::Bad,
         }
     }
