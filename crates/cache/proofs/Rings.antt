@@ -1,6 +1,6 @@
 -- A ring of eight places, seen from its first: reading, writing and moving on.
-use Rattle.std.proofs.Common.{◌≡◌, ℕ, ◌+◌, ◌-◌, ◌%◌, ◌<◌, ◌≤◌, ◌≢◌, List, [], ◌∷◌, ◌++◌, map, length, get_or, take, drop, set, sym, ap, ◌∙◌, inl, inr, arith, length-append, length-drop, length-set, length-take}
-use Rattle.std.proofs.lemmas.List.{get_or_append_left, get_or-append_right, get_or-take, get_or-drop, get_or-set_same, get_or-set_other, same_lists, take_more_set, drop_more, take-map, drop-map, map-append, take-append-le}
+use Rattle.std.proofs.Common.{◌≡◌, ℕ, ◌+◌, ◌-◌, ◌%◌, ◌<◌, ◌≤◌, ◌≢◌, List, [], ◌∷◌, ◌++◌, map, length, get_or, take, drop, set, sym, ap, ◌∙◌, subst, inl, inr, arith, length-append, length-drop, length-set, length-take}
+use Rattle.std.proofs.lemmas.List.{get_or_append_left, get_or-append_right, get_or-take, get_or-drop, get_or-set_same, get_or-set_other, same_lists, take_more_set, drop_more, take-map, drop-map, map-append}
 use Rattle.std.proofs.lemmas.Bool.{cases_lt, cases_eq}
 use Rattle.cache.specs.Ring.{ring}
 
@@ -65,32 +65,16 @@ ring_from {A = A} n c k xs d eight ln lc lk =
     drop_more (take c (ring n xs)) k d (omega (arith, length_taken n c xs eight ln lc))
     ∙ ap (λ (x : A). x ∷ drop (k + 1) (take c (ring n xs))) (get_or-take c (ring n xs) k d lk ∙ get_or_ring n k xs d eight ln (omega arith))
 
+-- what stands before place a, and those from there on
+pub ring_at : {A : Type 0} (n c a : ℕ) (xs ls : List A) (d : A) → take c (ring n xs) ≡ ls → length xs ≡ 8 → n < 8 → c ≤ 8 → n < a → a ≤ n + c
+    → drop (a - 1 - n) ls ≡ get_or xs ((a - 1) % 8) d ∷ drop (a - n) ls
+ring_at {A = A} n c a xs ls d is eight ln lc after within =
+    let k : (a - 1 - n) + 1 ≡ a - n = omega arith in
+    let at : (n + (a - 1 - n)) % 8 ≡ (a - 1) % 8 = ap (λ i. i % 8) (omega arith) in
+    subst (λ (zs : List A). drop (a - 1 - n) zs ≡ get_or xs ((a - 1) % 8) d ∷ drop (a - n) zs) is
+    (ring_from n c (a - 1 - n) xs d eight ln lc (omega arith)
+    ∙ ap (λ i. get_or xs i d ∷ drop ((a - 1 - n) + 1) (take c (ring n xs))) at ∙ ap (λ i. get_or xs ((a - 1) % 8) d ∷ drop i (take c (ring n xs))) k)
+
 -- a change of each place is a change of each of those taken
 pub ring_map : {A : Type 0} (f : A → A) (n c : ℕ) (xs : List A) → take c (ring n (map f xs)) ≡ map f (take c (ring n xs))
 ring_map f n c xs = ap (take c) (simp (drop-map, take-map) (sym (map-append f (drop n xs) (take n xs)))) ∙ take-map f c (ring n xs)
-
--- where they lie before the end, they are those from the first on
-pub ring_lies : {A : Type 0} (n c : ℕ) (xs : List A) → length xs ≡ 8 → n < 8 → c ≤ 8 → n + c ≤ 8 → take (n + c - n) (drop n xs) ≡ take c (ring n xs)
-ring_lies n c xs eight ln lc within =
-    let size : n + c - n ≡ c = omega arith in
-    ap (λ k. take k (drop n xs)) size ∙ sym (take-append-le c (drop n xs) (take n xs) (simp length-drop (omega (arith, eight))))
-
--- where they go round the end, they are those from the first on and those from the front on
-pub ring_wraps : {A : Type 0} (n c : ℕ) (xs : List A) → length xs ≡ 8 → n < 8 → c ≤ 8 → 8 < n + c
-    → take (8 - n) (drop n xs) ++ take (n + c - 8) xs ≡ take c (ring n xs)
-ring_wraps n c xs eight ln lc over =
-    let front : length (take (8 - n) (drop n xs)) ≡ 8 - n = simp (length-take, length-drop) (omega (arith, eight)) in
-    let back : length (take (n + c - 8) xs) ≡ n + c - 8 = simp length-take (omega (arith, eight)) in
-    same_lists _ _ (length-append (take (8 - n) (drop n xs)) (take (n + c - 8) xs) ∙ omega (arith, front, back, length_taken n c xs eight ln lc))
-    (λ k d h.
-    let lk : k < c = omega (arith, h, length-append (take (8 - n) (drop n xs)) (take (n + c - 8) xs), front, back) in
-    elim (cases_lt k (8 - n)) [
-      | inl low ↦
-          get_or_append_left (take (8 - n) (drop n xs)) (take (n + c - 8) xs) d k (omega (arith, front, low))
-          ∙ get_or-take (8 - n) (drop n xs) k d low ∙ get_or-drop n xs k d
-          ∙ ap (λ i. get_or xs i d) (omega arith) ∙ sym (get_or_ring n k xs d eight ln (omega arith)) ∙ sym (get_or-take c (ring n xs) k d lk)
-      | inr high ↦
-          get_or-append_right (take (8 - n) (drop n xs)) (take (n + c - 8) xs) (8 - n) k d front high
-          ∙ get_or-take (n + c - 8) xs (k - (8 - n)) d (omega arith)
-          ∙ ap (λ i. get_or xs i d) (omega arith) ∙ sym (get_or_ring n k xs d eight ln (omega arith)) ∙ sym (get_or-take c (ring n xs) k d lk)
-    ])

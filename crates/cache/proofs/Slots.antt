@@ -1,5 +1,5 @@
 -- Lists of held sectors: one looked for from the end, and each of a sector given new bytes.
-use Rattle.std.proofs.Common.{◌≡◌, ℕ, ◌+◌, ◌<◌, ◌≤◌, Bool, true, false, cond, ◌==◌, eqb, List, [], ◌∷◌, ◌++◌, map, length, get_or, take, drop, set, reverse, Some, None, Ok, Err, Option, inl, inr, sym, refl, ap, ◌∙◌, subst}
+use Rattle.std.proofs.Common.{◌≡◌, ℕ, zero, suc, ◌+◌, ◌-◌, ◌%◌, ◌<◌, ◌≤◌, Bool, true, false, cond, ◌==◌, eqb, List, [], ◌∷◌, ◌++◌, map, length, get_or, take, drop, set, reverse, Some, None, Ok, Err, Option, inl, inr, sym, refl, ap, ◌∙◌}
 use Rattle.std.specs.List.{find}
 use Rattle.std.specs.Option.{option_map, option_or}
 use Rattle.std.proofs.lemmas.Bool.{eq-eqb, ne_eqb, cases_eq}
@@ -12,6 +12,8 @@ use Rattle.device.specs.Meaning.{Answer, Addressed, Read, Write}
 use Rattle.device.proofs.Changes.{still_addressed, changed_cut, read_plate}
 use Rattle.cache.specs.declared.held.Slot.{Slot}
 use Rattle.cache.specs.Held.{slot, kept, rewritten, Fits}
+use Rattle.cache.specs.Ring.{ring}
+use Rattle.cache.proofs.Rings.{ring_at}
 
 -- The later of two finds, if there is one.
 abbrev pub later : Option (List ℕ) → Option (List ℕ) → Option (List ℕ)
@@ -45,12 +47,34 @@ pub last_of-append : (s : ℕ) (xs ys : List Slot) → last_of s (xs ++ ys) ≡ 
 last_of-append s xs ys =
     ap (find (λ l. l.sector == s)) (reverse-append xs ys) ∙ find-append (λ l. l.sector == s) (reverse ys) (reverse xs)
 
-pub or_found : {X Y : Type 0} (f : X → Y) (x : Option X) (y z : Option Y) → option_map f x ≡ y → (x ≡ None → ⊥) → option_map f x ≡ option_or y z
-or_found f (Some a) y z e some = subst (λ w. Some (f a) ≡ option_or w z) e refl
-or_found f None y z e some = absurd (some refl)
+last_here : (s : ℕ) (l : Slot) (ls : List Slot) → last_of s ls ≡ None → l.sector ≡ s → last_of s (l ∷ ls) ≡ Some l
+last_here s l ls none same =
+    last_of-append s (l ∷ []) ls ∙ ap (λ w. option_or w (last_of s (l ∷ []))) none ∙ rw (eq-eqb l.sector s same) refl
 
-pub or_next : {X Y : Type 0} (f : X → Y) (x : Option X) (y z : Option Y) → option_map f x ≡ y → x ≡ None → option_or y z ≡ z
-or_next f x y z e none = ap (λ w. option_or w z) (sym e ∙ ap (option_map f) none)
+last_not_here : (s : ℕ) (l : Slot) (ls : List Slot) → last_of s ls ≡ None → (l.sector ≡ s → ⊥) → last_of s (l ∷ ls) ≡ None
+last_not_here s l ls none other =
+    last_of-append s (l ∷ []) ls ∙ ap (λ w. option_or w (last_of s (l ∷ []))) none ∙ rw (ne_eqb l.sector s other) refl
+
+-- the last of a later part is the last
+last_from : (s k : ℕ) (ls : List Slot) (x : Slot) → last_of s (drop k ls) ≡ Some x → last_of s ls ≡ Some x
+last_from s zero ls x e = e
+last_from s (suc k) [] x e = e
+last_from s (suc k) (l ∷ ls) x e = last_of-append s (l ∷ []) ls ∙ ap (λ w. option_or w (last_of s (l ∷ []))) (last_from s k ls x e)
+
+-- where the slot before place a of a ring is of the sector, and none from a on is, it is the last
+pub ring_last : (s n c a : ℕ) (xs ls : List Slot) (d : Slot) → take c (ring n xs) ≡ ls → length xs ≡ 8 → n < 8 → c ≤ 8 → n < a → a ≤ n + c
+    → last_of s (drop (a - n) ls) ≡ None → (get_or xs ((a - 1) % 8) d).sector ≡ s → Some (get_or xs ((a - 1) % 8) d) ≡ last_of s ls
+ring_last s n c a xs ls d is eight ln lc after within none same =
+    let x = get_or xs ((a - 1) % 8) d in
+    let there : drop (a - 1 - n) ls ≡ x ∷ drop (a - n) ls = ring_at n c a xs ls d is eight ln lc after within in
+    sym (last_from s (a - 1 - n) ls x (ap (last_of s) there ∙ last_here s x (drop (a - n) ls) none same))
+
+-- where it is of another sector, none from it on is of this one
+pub ring_none : (s n c a : ℕ) (xs ls : List Slot) (d : Slot) → take c (ring n xs) ≡ ls → length xs ≡ 8 → n < 8 → c ≤ 8 → n < a → a ≤ n + c
+    → last_of s (drop (a - n) ls) ≡ None → ((get_or xs ((a - 1) % 8) d).sector ≡ s → ⊥) → last_of s (drop (a - 1 - n) ls) ≡ None
+ring_none s n c a xs ls d is eight ln lc after within none other =
+    let x = get_or xs ((a - 1) % 8) d in
+    ap (last_of s) (ring_at n c a xs ls d is eight ln lc after within) ∙ last_not_here s x (drop (a - n) ls) none other
 
 -- a slot of the sector gets its bytes
 abbrev pub renewed : Slot → Slot → Slot

@@ -32,14 +32,6 @@ impl Slot {
     }
 }
 
-// The last of the slots that is of this sector.
-#[inline]
-fn find_last(slots: &[Slot], sector: usize) -> Option<&Slot>
-    ensures { option_map (λ l. l.now) result ≡ find (λ l. l.sector == sector) (reverse slots.now) }
-{
-    slots.iter().rev().find(|slot| slot.sector == sector)
-}
-
 // A ring of slots: `count` of them are in use, from `first` on, round the end. So the longest held sector is let go
 // without a move of the others, which a vector's `remove` makes.
 #[derive(Drop)]
@@ -98,32 +90,20 @@ impl Held {
         self.count == SLOTS
     }
 
-    // The slot of this sector, if it is held. It is looked for from the end, where a later write would be.
+    // The slot of this sector, if it is held. It is looked for from the end, where a later write would be. By its place
+    // and not in two slices of the ring: so the search is short where nothing is held, as in an opening.
     #[inline]
+    #[tactic(auto, using(crate::proofs::Slots::ring_none))]
     pub(crate) fn find(&self, sector: usize) -> Option<&Slot>
         ensures { option_map (λ l. l.now) result ≡ find (λ l. l.sector == sector) (reverse self.now) }
     {
-        let end = self.first + self.count;
-        if end <= SLOTS {
-            return find_last(&self.slots[self.first..end], sector);
+        for at in (self.first..self.first + self.count).rev() {
+            let slot = &self.slots[at % SLOTS];
+            if slot.sector == sector {
+                return Some(slot);
+            }
         }
-        self.find_round(sector)
-    }
-
-    // The same where the slots in use go round the end: those in front were taken in later. Kept out of line, so that
-    // the other way is short.
-    #[inline(never)]
-    fn find_round(&self, sector: usize) -> Option<&Slot>
-        ensures { option_map (λ l. l.now) result ≡ find (λ l. l.sector == sector) (reverse self.now) }
-    {
-        let end = self.first + self.count;
-        if end <= SLOTS {
-            return find_last(&self.slots[self.first..end], sector);
-        }
-        match find_last(&self.slots[..end - SLOTS], sector) {
-            None => find_last(&self.slots[self.first..], sector),
-            found => found,
-        }
+        None
     }
 
     // Gives the sector its new bytes in its old turn. A slot out of use may change too, unseen.
